@@ -1,0 +1,9 @@
+pub mod Octets
+pub mod Steps
+pub mod PresenceLaws
+pub mod SimpleLaws
+pub mod RowLaws
+pub mod RecordLaws
+pub mod FaultLaws
+pub mod FirstFaultLaws
+pub mod FaultAgain

@@ -1,0 +1,5 @@
+pub mod Numbers
+pub mod Tables
+pub mod Spelling
+pub mod Faults
+pub mod FirstFault
