@@ -1,0 +1,11 @@
+pub mod Ends
+pub mod Fits
+pub mod LeastTick
+pub mod Lines
+pub mod Meets
+pub mod Parabolas
+pub mod OddSets
+pub mod Products
+pub mod Roots
+pub mod Steps
+pub mod Where

@@ -1,0 +1,32 @@
+// At which ticks of a look-ahead an inequality holds, in whole numbers and without a walk over the
+// ticks. A tick is 1/128 s.
+#![tactic(auto)]
+
+mod inequality;
+mod parity;
+mod root;
+mod spans;
+
+pub use inequality::{least_tick, linear, quadratic};
+pub use parity::odd_first;
+pub use root::isqrt;
+pub use spans::meet;
+
+/// A set of ticks without gaps: none, or each from `first` to `last`, both included.
+/// What this crate makes is proper: a `Span` has its `first` at or before its `last`.
+#[derive(Clone, Copy, Debug, PartialEq, Eq)]
+pub enum Ticks {
+    Empty,
+    Span { first: i64, last: i64 },
+}
+
+/// What the nets for terrain and for airspace volumes (MSAW, APW) report of a track that they warn
+/// of: the first tick of the danger, and whether the alert is urgent.
+#[derive(Clone, Copy, Debug, PartialEq, Eq)]
+pub struct TickHit {
+    pub first: i64,
+    pub urgent: bool,
+}
+
+#[cfg(test)]
+mod tests;

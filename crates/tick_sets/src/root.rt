@@ -1,0 +1,43 @@
+ghost use Rattle.std.specs.Prelude.{◌+◌, ◌*◌, ◌^◌, ◌<◌, ◌≤◌};
+
+/// The square root of `n`, rounded down.
+///
+/// `leading` is the 64 bits or so that a shift by `2*half` leaves, and `high` their root. What they are
+/// above its square, shifted back and divided by twice `high`, gives the lower part of the whole root,
+/// so near that nearly always no step down follows. That is one division of a word, and none of 128
+/// bits.
+pub fn isqrt(n: u128) -> u128
+    ensures square_le { result * result ≤ n }
+    ensures next_square_gt { n < (result + 1) * (result + 1) }
+    ensures bound { result < 2 ^ 64 }
+{
+    if n < 0x1_0000_0000_0000_0000 {
+        return word_root(n as u64) as u128;
+    }
+    let half = (65 - n.leading_zeros()) / 2;
+    let leading = (n >> (2 * half)) as u64;
+    let high = word_root(leading);
+    let low = ((leading - high * high + 1) << (half - 1)) / high;
+    let most = ((high as u128 + 1) << half) - 1;
+    let mut root = (((high as u128) << half) + low as u128).min(most);
+    while n < root * root {
+        root -= 1;
+    }
+    root
+}
+
+/// The square root of one word, rounded down.
+///
+/// Newton's steps from a power of two at or above the root; the first of them is a shift.
+fn word_root(n: u64) -> u64
+    ensures square_le { result * result ≤ n }
+    ensures next_square_gt { n < (result + 1) * (result + 1) }
+    ensures bound { result < 2 ^ 32 }
+{
+    let half = (65 - n.leading_zeros()) / 2;
+    let mut root = ((1 << half) + (n >> half)) / 2;
+    while n < root * root {
+        root = (root + n / root) / 2;
+    }
+    root
+}
