@@ -1,0 +1,2 @@
+pub mod SimpleForm
+pub mod Tracks
