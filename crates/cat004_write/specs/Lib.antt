@@ -1,0 +1,5 @@
+pub mod Blocks
+pub mod Grouping
+pub mod LastBlock
+pub mod Messages
+pub use Rattle.asterix_fields.specs.Numbers

@@ -1,0 +1,65 @@
+//! What happened to an alert in a cycle.
+use cat062_read::TrackKey;
+
+/// The ground nets, in the order in which their subjects stand.
+#[derive(Clone, Copy, Debug, PartialEq, Eq, PartialOrd, Ord)]
+pub enum Net {
+    /// Short term conflict alert.
+    Stca,
+    /// Minimum safe altitude warning.
+    Msaw,
+    /// Area proximity warning.
+    Apw,
+    /// Approach path monitor.
+    Apm,
+}
+
+/// Whom an alert is about: a pair of tracks, a track, a track and a volume, or a track and a funnel.
+/// Subjects are ordered by these fields.
+#[derive(Clone, Copy, Debug, PartialEq, Eq, PartialOrd, Ord)]
+pub struct Subject {
+    pub net: Net,
+    pub key: TrackKey,
+    /// The second track of a pair; 0, 0, 0 outside STCA.
+    pub other: TrackKey,
+    /// The volume's or the funnel's number; 0 in STCA and MSAW.
+    pub object: u16,
+}
+
+/// The figures of a hit. Those that a net doesn't have are 0.
+#[derive(Clone, Copy, Debug, PartialEq, Eq)]
+pub struct HitData {
+    /// The first tick of the conflict, in 1/128 s from the cycle's time.
+    pub first: u32,
+    /// The tick of closest approach, in 1/128 s from the cycle's time.
+    pub closest: u32,
+    /// The current horizontal separation in 0.5 m.
+    pub chs: u32,
+    /// The minimum horizontal separation in 0.5 m.
+    pub mhs: u16,
+    /// The current vertical separation in 25 ft.
+    pub cvs: u16,
+    /// The vertical separation at the minimum horizontal one, in 25 ft.
+    pub mvs: u16,
+    /// 1 urgent, 2 current proximity, 4 below, 8 above, 16 left, 32 right.
+    pub flags: u8,
+}
+
+/// How an alert stands.
+#[derive(Clone, Copy, Debug, PartialEq, Eq)]
+pub enum Status {
+    First,
+    Continuing,
+    Ended,
+}
+
+/// What a cycle says of an alert.
+#[derive(Clone, Copy, Debug, PartialEq, Eq)]
+pub struct Event {
+    pub subject: Subject,
+    pub status: Status,
+    /// The alert's number.
+    pub id: u16,
+    /// The hit, where the subject was hit in this cycle.
+    pub hit: Option<HitData>,
+}
