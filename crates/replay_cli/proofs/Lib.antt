@@ -1,0 +1,10 @@
+pub mod Closest
+pub mod Current
+pub mod Ends
+pub mod Framing
+pub mod Lists
+pub mod Messages
+pub mod Read
+pub mod Rooted
+pub mod Rows
+pub mod Signed

@@ -1,0 +1,40 @@
+-- One more element of a list that a loop goes over.
+use Rattle.std.proofs.Common.{◌≡◌, ℕ, ◌+◌, ◌<◌, List, [], ◌∷◌, ◌++◌, length, take, get_or, Option, Some, None, ap, ◌∙◌, map, arith, suc}
+use Rattle.std.specs.List.{filter_map, AllByRecursion, enumerate_from}
+use Rattle.std.proofs.lemmas.List.{take_more, append-nil, map-append, length-take}
+use Rattle.std.proofs.lemmas.List.Elements.{filter_map-append}
+
+pub found_more : {X Y : Type 0} (f : X → Option Y) (xs : List X) (i : ℕ) (x : X) (y : Y) → i < length xs → f (get_or xs i x) ≡ Some y → filter_map f (take (i + 1) xs) ≡ filter_map f (take i xs) ++ y ∷ []
+found_more f xs i x y before found =
+    ap (filter_map f) (take_more xs i x before) ∙ filter_map-append f (take i xs) (get_or xs i x ∷ []) ∙ rw found
+
+pub none_more : {X Y : Type 0} (f : X → Option Y) (xs : List X) (i : ℕ) (x : X) → i < length xs → f (get_or xs i x) ≡ None → filter_map f (take (i + 1) xs) ≡ filter_map f (take i xs)
+none_more f xs i x before none =
+    ap (filter_map f) (take_more xs i x before) ∙ filter_map-append f (take i xs) (get_or xs i x ∷ []) ∙ rw none (append-nil (filter_map f (take i xs)))
+
+pub each_push : {X : Type 0} (P : X → Type 0) (xs : List X) (x : X) → AllByRecursion P xs → P x → AllByRecursion P (xs ++ x ∷ [])
+each_push P [] x each one = (one, tt)
+each_push P (y ∷ ys) x each one = (each.0, each_push P ys x each.1 one)
+
+same_number : (n : ℕ) → n ≡ n + 0
+same_number n = omega arith
+
+next_number : (n m : ℕ) → n + 1 + m ≡ n + suc m
+next_number n m = omega arith
+
+-- the elements with their numbers, one after another
+pub enumerate_push : {X : Type 0} (n : ℕ) (xs : List X) (x : X) → enumerate_from n (xs ++ x ∷ []) ≡ enumerate_from n xs ++ (n + length xs, x) ∷ []
+enumerate_push n [] x = ap (λ m. (m, x) ∷ []) (same_number n)
+enumerate_push n (y ∷ ys) x = ap (λ es. (n, y) ∷ es) (enumerate_push (n + 1) ys x ∙ ap (λ m. enumerate_from (n + 1) ys ++ (m, x) ∷ []) (next_number n (length ys)))
+
+length_take_below : {X : Type 0} (i : ℕ) (xs : List X) → i < length xs → length (take i xs) ≡ i
+length_take_below i xs before = simp length-take (omega arith)
+
+-- a function of the elements with their numbers, at one more element
+pub enumerated_more : {X Y : Type 0} (f : ℕ × X → Y) (xs : List X) (i : ℕ) (x : X) → i < length xs → map f (enumerate_from 0 (take (i + 1) xs)) ≡ map f (enumerate_from 0 (take i xs)) ++ f (i, get_or xs i x) ∷ []
+enumerated_more f xs i x before =
+    let long : length (take i xs) ≡ i = length_take_below i xs before in
+    ap (λ l. map f (enumerate_from 0 l)) (take_more xs i x before)
+    ∙ ap (map f) (enumerate_push 0 (take i xs) (get_or xs i x))
+    ∙ map-append f (enumerate_from 0 (take i xs)) ((0 + length (take i xs), get_or xs i x) ∷ [])
+    ∙ ap (λ n. map f (enumerate_from 0 (take i xs)) ++ f (n, get_or xs i x) ∷ []) (omega arith)

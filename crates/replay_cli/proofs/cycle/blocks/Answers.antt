@@ -1,0 +1,27 @@
+use Rattle.std.proofs.Common.{◌≡◌, take, w64, to_z, of_z, ap, ◌∙◌, arith}
+use Rattle.std.proofs.lemmas.Int.{ints}
+use Rattle.std.proofs.lemmas.List.{take_all}
+use Rattle.cat004_write.specs.Blocks.{pack}
+use Rattle.replay_cli.specs.Cycle.{events, cycle_time}
+use Rattle.replay_cli.specs.Reference.{messages}
+use Rattle.replay_cli.proofs.Signed.{as_is}
+use Rattle.replay_cli.proofs.Messages.{messages_more}
+use Rattle.replay_cli.proofs.cycle.blocks.Goals as goal
+use Rattle.replay_cli.proofs.cycle.blocks.Goals.{In_ok-push}
+
+taken : (c : In_ok-push) → to_z w64 (of_z w64 c.end_of_cycle-time.result) ≡ cycle_time c.args.site.now
+taken c =
+    let low = c.end_of_cycle-time.ensures.low in
+    let high = c.end_of_cycle-time.ensures.high in
+    as_is c.end_of_cycle-time.result (omega (arith, ints)) ∙ c.end_of_cycle-time.ensures.time
+
+pub loop-number-preserved : goal.loop-number-preserved
+loop-number-preserved c = λ rest.
+    let more = messages_more c.args.site.now c.args.hits.now c.loop-number.number _ c.first_event-event.result c.loop-number-test.true c.first_event-event.ensures in
+    let bytes = rw (taken c) at c.write_event.ensures.bytes in
+    rw (more, ← bytes) (c.in_ok-push.ensures.ok (messages c.args.site.now (events (take c.loop-number.number c.args.hits.now))) c.loop-number.invariant rest)
+
+pub returns : goal.returns
+returns c =
+    c.take.ensures.blocks (messages c.args.site.now (events (take c.loop-number.number c.args.hits.now))) c.loop-number.invariant
+    ∙ ap (λ hs. pack (messages c.args.site.now (events hs))) (take_all c.loop-number.number c.args.hits.now c.loop-number-test.false)

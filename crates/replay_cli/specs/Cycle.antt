@@ -1,0 +1,66 @@
+-- A cycle: the rows of its table, those that are eligible, the hits of all pairs, and the events (this project's profile).
+use Rattle.std.specs.Prelude.{ℕ, ◌%◌, ◌^◌, Bool, false, ◌&&◌, not, List, [], ◌∷◌, ◌++◌, map, Option, Some, None, ℤ, pos, ◌+ℤ◌, ◌==◌, if◌then◌else◌}
+use Rattle.std.specs.List.{filter_map, fold, enumerate_from, list_any}
+use Rattle.std.specs.Option.{option_map, option_map_or}
+use Rattle.std.specs.declared.cmp.Ordering.{Ordering}
+use Rattle.std.specs.Ordering.{nat_cmp, ordering_then}
+use Rattle.std.specs.BTreeMap.{insert_entry}
+use Rattle.cat062_read.specs.declared.track.Track.{Track}
+use Rattle.cat062_read.specs.declared.track.TrackKey.{TrackKey}
+use Rattle.cat004_write.specs.declared.event.Net.TheVariants.{Stca}
+use Rattle.cat004_write.specs.declared.event.Status.TheVariants.{First}
+use Rattle.cat004_write.specs.declared.event.Event.{Event}
+use Rattle.replay_cli.specs.declared.cycle.Hit.{Hit}
+use Rattle.replay_cli.specs.declared.cycle.Mover.{Mover}
+use Rattle.replay_cli.specs.declared.site.Site.{Site}
+use Rattle.replay_cli.specs.Motions.{motion_at}
+use Rattle.replay_cli.specs.Stca.{stca_hit}
+
+-- keys in order: by system area code, then system identification code, then number
+abbrev pub key_cmp : TrackKey → TrackKey → Ordering
+key_cmp a b = ordering_then (nat_cmp a.sac b.sac) (ordering_then (nat_cmp a.sic b.sic) (nat_cmp a.number b.number))
+
+-- the table: each key with its track, in key order
+abbrev pub table : List Track → List (TrackKey × Track)
+table tracks = fold (λ rows track. insert_entry key_cmp rows track.key track) [] tracks
+
+-- when cycle 0 ends and its table is taken
+abbrev pub cycle_time : Site → ℤ
+cycle_time site = site.start +ℤ site.period
+
+-- a code that the site leaves out of the nets
+abbrev pub is_left_out : Site → Option ℕ → Bool
+is_left_out site code = option_map_or (λ c. list_any (λ d. d == c) site.codes) code false
+
+-- a row that the nets look at: its set enables the net, it isn't tentative and isn't simulated, and its code isn't left out
+abbrev pub is_eligible : Site → Track → Bool
+is_eligible site track = site.set.stca && not track.tentative && not track.simulated && not (is_left_out site track.code)
+
+-- the eligible rows with a level, each with its motion at the cycle's time
+abbrev pub mover_of : Site → TrackKey × Track → Option Mover
+mover_of site row =
+    if is_eligible site row.1
+    then option_map (λ motion. record { key = row.0; motion = motion }) (motion_at row.1 (pos row.1.time) (cycle_time site))
+    else None
+
+abbrev pub movers : Site → List (TrackKey × Track) → List Mover
+movers site rows = filter_map (mover_of site) rows
+
+-- the hit of a pair, the one with the lower key first
+abbrev pub hit_of : Site → Mover → Mover → Option Hit
+hit_of site a b =
+    option_map
+    (λ figures. record { subject = record { net = Stca; key = a.key; other = b.key; object = 0 }; figures = figures })
+    (stca_hit a.motion b.motion site.set)
+
+-- the hits of all pairs, in the order of their first keys and then of their second
+abbrev pub hits : Site → List Mover → List Hit
+hits site [] = []
+hits site (a ∷ others) = filter_map (hit_of site a) others ++ hits site others
+
+-- a First event for each hit, with the alerts' numbers in order, modulo 65,536
+abbrev pub first_event : ℕ × Hit → Event
+first_event hit = record { subject = hit.1.subject; status = First; id = hit.0 % 2 ^ 16; hit = Some hit.1.figures }
+
+abbrev pub events : List Hit → List Event
+events hs = map first_event (enumerate_from 0 hs)

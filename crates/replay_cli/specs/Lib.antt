@@ -1,0 +1,17 @@
+pub mod Cycle
+pub mod Feeds
+pub mod Form
+pub mod Motions
+pub mod Outcomes
+pub mod Reference
+pub mod Roots
+pub mod Rows
+pub mod Run
+pub mod Stca
+pub use Rattle.cat004_write.specs.Blocks
+pub use Rattle.cat004_write.specs.Messages
+pub use Rattle.cat062_read.specs.SimpleForm
+pub use Rattle.cat062_read.specs.Tracks
+pub use Rattle.outside_io.specs.Bytes
+pub use Rattle.outside_io.specs.Faults
+pub use Rattle.outside_io.specs.Names

@@ -1,0 +1,38 @@
+-- What a run was asked for, what it was to read, and what it wrote (this project's profile).
+use Rattle.std.specs.Prelude.{◌≡◌, ℕ, List, [], ◌∷◌, take, codes, Option, Some, None, IfSome, String, if◌then◌else◌}
+use Rattle.std.specs.Option.{option_map, option_and_then}
+use Rattle.std.specs.Str.{bytes_eq}
+use Rattle.std.specs.String.{string_bytes}
+use Rattle.std.specs.declared.alloc.Global.{Global}
+use Rattle.std.specs.Io.KnownBytes.{Appends}
+use Rattle.outside_io.specs.Bytes.{AppendsPrefix}
+use Rattle.outside_io.specs.Names.{bytes_of, Lacks}
+use Rattle.replay_cli.specs.Form.{feed_room, IsBuilt}
+use Rattle.replay_cli.specs.declared.site.Site.{Site}
+
+-- the name of the feed in the words `replay NAME`; no other words have one
+abbrev pub feed_name : List (String Global) → Option (List ℕ)
+feed_name (command ∷ name ∷ []) = if bytes_eq (string_bytes command) (codes "replay") then Some (string_bytes name) else None
+feed_name words = None
+
+-- the bytes that are read of a feed
+abbrev pub feed_of : List ℕ → List ℕ
+feed_of bytes = take feed_room bytes
+
+-- the feed that the words name, where the world tells its names and has this one
+abbrev pub told_feed : Option (List (List ℕ × List ℕ)) → List (String Global) → Option (List ℕ)
+told_feed files words = option_map feed_of (option_and_then (λ name. option_and_then (bytes_of name) files) (feed_name words))
+
+-- the world tells its names, and lacks the one that the words give
+abbrev pub LacksFeed : Option (List (List ℕ × List ℕ)) → List (String Global) → Type 0
+LacksFeed files words = IfSome (feed_name words) (Lacks files)
+
+-- the alert bytes of the feed were written: all of them at status 0, and a prefix of them at any other
+abbrev pub WritesAlerts : ℕ → Option (List ℕ) → Option (List ℕ) → List ℕ → Type 0
+WritesAlerts status old new alerts = AppendsPrefix old new alerts × (status ≡ 0 → Appends old new alerts)
+
+-- status 3 is for a feed that isn't built, and what is written is the alerts of a built one
+pub record TellsForm (site : Site) (status : ℕ) (feed : List ℕ) : Type 0 where
+  pub refused : status ≡ 3 → IsBuilt site feed → ⊥
+  pub done : status ≡ 0 → IsBuilt site feed
+  pub cut_off : status ≡ 5 → IsBuilt site feed

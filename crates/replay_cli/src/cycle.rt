@@ -1,0 +1,165 @@
+//! A cycle: its table, the eligible rows, the hits of all pairs, and the alert bytes.
+ghost use Rattle.std.specs.Prelude.{◌≡◌, ◌++◌, ◌%◌, ◌^◌, ◌<◌, ◌≤◌, List, ℕ, map, OnOk, IfOk, All, IfSome, IsTrue, pos};
+ghost use Rattle.std.specs.List.{filter_map, AllByRecursion, enumerate_from};
+ghost use Rattle.cat004_write.specs.Messages.{FitsOctets};
+ghost use Rattle.replay_cli.specs.Stca.{IsSet};
+ghost use Rattle.replay_cli.specs.Motions.{InRange};
+ghost use Rattle.replay_cli.specs.Cycle.{cycle_time, events, hit_of, hits as hits_of_movers, first_event as first_event_of, is_eligible as eligible, mover_of, movers as movers_of_rows};
+ghost use Rattle.cat062_read.specs.Tracks.{IsInPlane, IsLevelled};
+ghost use Rattle.cat004_write.specs.Blocks.{pack};
+ghost use Rattle.replay_cli.specs.Reference.{messages};
+ghost use Rattle.replay_cli.specs.Rows.{IsSite, IsRow};
+ghost use Rattle.std.specs.Prelude.{ℤ, ◌-ℤ◌, ◌≤ℤ◌};
+
+use crate::motion::{Motion, motion_at};
+use crate::site::Site;
+use crate::stca::examine;
+use cat004_write::{Event, HitData, Net, NoMemory, Packer, Status, Subject, write_event};
+use cat062_read::{Track, TrackKey};
+use std::alloc::Global;
+use std::collections::BTreeMap;
+
+/// An eligible row: its key, and its motion at the cycle's time.
+#[derive(Clone, Copy, Debug)]
+pub struct Mover {
+    pub key: TrackKey,
+    pub motion: Motion,
+}
+
+/// What a cycle hits, with its figures.
+#[derive(Clone, Copy, Debug)]
+pub struct Hit {
+    pub subject: Subject,
+    pub figures: HitData,
+}
+
+/// The nets look at this row: its set enables them, it isn't tentative and isn't simulated, and its code
+/// isn't left out.
+fn is_eligible(site: &Site, track: &Track) -> bool
+    ensures { result ≡ eligible site.now track.now }
+{
+    site.set.stca
+        && !track.tentative
+        && !track.simulated
+        && !track.code.is_some_and(|code| site.codes.contains(&code))
+}
+
+/// When cycle 0 ends and its table is taken.
+fn end_of_cycle(site: &Site) -> i64
+    requires { IsSite site.now }
+    ensures time { result ≡ cycle_time site.now }
+    ensures low { pos 0 ≤ℤ result }
+    ensures high { result ≤ℤ pos (2 ^ 24) }
+{
+    site.start + site.period
+}
+
+/// The row's mover, where the nets look at the row and it has a level.
+fn eligible_mover(site: &Site, key: TrackKey, track: &Track) -> Option<Mover>
+    requires site { IsSite site.now }
+    requires row { IsRow site.now track.now }
+    ensures mover { result ≡ mover_of site.now (key, track.now) }
+    ensures range { IfSome result (λ m. InRange m.motion) }
+{
+    if !is_eligible(site, track) {
+        return None;
+    }
+    let motion = motion_at(track, i64::from(track.time), end_of_cycle(site))?;
+    Some(Mover { key, motion })
+}
+
+/// The hit of a pair, a before b in key order.
+fn pair_hit(site: &Site, a: &Mover, b: &Mover) -> Option<Hit>
+    requires site { IsSite site.now }
+    requires a { InRange a.now.motion }
+    requires b { InRange b.now.motion }
+    ensures hit { result ≡ hit_of site.now a.now b.now }
+    ensures room { IfSome result (λ h. FitsOctets h.figures) }
+{
+    let figures = examine(&a.motion, &b.motion, &site.set)?;
+    let subject = Subject {
+        net: Net::Stca,
+        key: a.key,
+        other: b.key,
+        object: 0,
+    };
+    Some(Hit { subject, figures })
+}
+
+/// The rows that the nets look at and that have a level, in key order.
+pub fn movers(
+    alloc: Global,
+    site: &Site,
+    rows: &BTreeMap<TrackKey, Track>,
+) -> Result<Vec<Mover>, NoMemory>
+    requires site { IsSite site.now }
+    requires rows { AllByRecursion (λ row. IsRow site.now row.1) rows.now.entries }
+    ensures movers { IfOk result (λ v. v.items ≡ movers_of_rows site.now rows.now.entries) }
+    ensures range { IfOk result (λ v. AllByRecursion (λ m. InRange m.motion) v.items) }
+{
+    let mut movers = Vec::new(alloc);
+    for (key, track) in rows {
+        if let Some(mover) = eligible_mover(site, *key, track) {
+            movers.push(mover)?;
+        }
+    }
+    Ok(movers)
+}
+
+/// Adds the hits of a row with the rows after it.
+fn add_hits(site: &Site, a: &Mover, others: &[Mover], hits: &mut Vec<Hit>) -> Result<(), NoMemory>
+    requires site { IsSite site.now }
+    requires a { InRange a.now.motion }
+    requires others { AllByRecursion (λ m. InRange m.motion) others.now }
+    requires room { AllByRecursion (λ h. FitsOctets h.figures) hits.old.items }
+    ensures hits { OnOk result (hits.new.items ≡ hits.old.items ++ filter_map (hit_of site.now a.now) others.now) }
+    ensures room { OnOk result (AllByRecursion (λ h. FitsOctets h.figures) hits.new.items) }
+{
+    for b in others {
+        if let Some(hit) = pair_hit(site, a, b) {
+            hits.push(hit)?;
+        }
+    }
+    Ok(())
+}
+
+/// The hits of all pairs, in the order of their first keys and then of their second.
+pub fn hits(alloc: Global, site: &Site, movers: &[Mover]) -> Result<Vec<Hit>, NoMemory>
+    requires site { IsSite site.now }
+    requires movers { AllByRecursion (λ m. InRange m.motion) movers.now }
+    ensures hits { IfOk result (λ v. v.items ≡ hits_of_movers site.now movers.now) }
+    ensures room { IfOk result (λ v. AllByRecursion (λ h. FitsOctets h.figures) v.items) }
+{
+    let mut hits = Vec::new(alloc);
+    for i in 0..movers.len() {
+        add_hits(site, &movers[i], &movers[i + 1..], &mut hits)?;
+    }
+    Ok(hits)
+}
+
+/// The First event of the hit of that number.
+fn first_event(number: usize, hit: &Hit) -> Event
+    ensures { result ≡ first_event_of (number, hit.now) }
+{
+    Event {
+        subject: hit.subject,
+        status: Status::First,
+        id: (number % 65_536) as u16,
+        hit: Some(hit.figures),
+    }
+}
+
+/// The blocks of the messages of these hits.
+pub fn blocks(alloc: Global, site: &Site, hits: &[Hit]) -> Result<Vec<u8>, NoMemory>
+    requires site { IsSite site.now }
+    requires room { AllByRecursion (λ h. FitsOctets h.figures) hits.now }
+    ensures { IfOk result (λ v. v.items ≡ pack (messages site.now (events hits.now))) }
+{
+    let time = end_of_cycle(site);
+    let mut packer = Packer::new(alloc);
+    for (number, hit) in hits.iter().enumerate() {
+        let event = first_event(number, hit);
+        packer.push(&write_event(&event, time, site.sac, site.sic))?;
+    }
+    Ok(packer.take())
+}
