@@ -1,0 +1,3 @@
+pub mod Framings
+pub mod Spellings
+pub mod Joined

@@ -1,0 +1,4 @@
+pub mod Framing
+pub mod Held
+pub mod Spelling
+pub mod Cutting
