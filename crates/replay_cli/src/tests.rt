@@ -174,6 +174,20 @@ fn two_tracks_head_on(rt: HostRuntime) -> Result<(), Fail> {
     Ok(())
 }
 
+/// With memory it is done; where an allocation is refused, nothing was written.
+#[test]
+fn want_of_memory(rt: HostRuntime) -> Result<(), Fail> {
+    let alloc = rt.alloc();
+    let outside = Outside::of(alloc, &joined(alloc, &[FIRST, SECOND])?)?;
+    let ran = outside.run(alloc, &["replay", "a.ast"])?;
+    if ran.status == 6 {
+        expect(&rt, &ran, 6, &[], "an allocation that is refused");
+    } else {
+        expect(&rt, &ran, 0, &ALERT, "ample memory");
+    }
+    Ok(())
+}
+
 #[test]
 fn refusals_and_failures(rt: HostRuntime) -> Result<(), Fail> {
     let alloc = rt.alloc();
