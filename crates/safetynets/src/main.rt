@@ -3,14 +3,12 @@
 
 ghost use Rattle.std.specs.Prelude.{◌≡◌, ◌<◌};
 
-use std::env;
-use std::io;
+use outside_io::{FileSink, FileWorld, Sinks, Steps};
+use replay_cli::replay_top;
 use std::marker::Brand;
 use std::process::ExitCode;
 use std::sync::ledger::{Blank, Ledger};
-
-use outside_io::{FileSink, FileWorld, Sinks, Steps};
-use replay_cli::replay_top;
+use std::{env, io};
 
 /// The exit status of words that the system doesn't give as text.
 const OTHER_WORDS: u8 = 2;
