@@ -1,2 +1,4 @@
 pub mod SimpleForm
 pub mod Tracks
+pub mod Contents
+pub mod Records

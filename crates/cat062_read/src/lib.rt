@@ -1,8 +1,19 @@
 //! ASTERIX category 062: records of system tracks, and the tracks that they tell of.
 #![tactic(auto)]
 
+mod body;
+mod item;
+pub mod laws;
+mod reading;
 pub mod record;
+pub mod table;
 pub mod track;
 
+pub use body::{BlockRead, NoMemory, Refused, read_block};
+pub use reading::read_record;
 pub use record::{BLOCK_LENGTH, Raw062, read_simple};
+pub use table::{CAT062, SUBS062, tables_hold};
 pub use track::{TICKS_PER_DAY, Track, TrackKey, track_of};
+
+#[cfg(test)]
+mod tests;

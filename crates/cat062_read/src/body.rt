@@ -1,0 +1,58 @@
+//! The records of a block's body.
+ghost use Rattle.std.specs.Prelude.{◌≡◌, ◌≤◌, ◌^◌, IfOk, All, length};
+ghost use Rattle.cat062_read.specs.Records.{records, refusal, refused_from};
+ghost use Rattle.cat062_read.specs.Tracks.{IsPlaced};
+
+use crate::reading::read_record;
+use crate::record::Raw062;
+use asterix_fields::ItemFault;
+use std::alloc::{AllocError, Global};
+
+/// Want of memory.
+pub type NoMemory = AllocError;
+
+/// Where octets begin no record: the place in the feed of the first of them, and their first fault.
+#[derive(Clone, Copy, Debug, PartialEq, Eq)]
+pub struct Refused {
+    pub offset: u64,
+    pub fault: ItemFault,
+}
+
+/// The records of a body in order, and what is refused behind them; the rest of that body is lost.
+#[derive(Debug, Drop)]
+pub struct BlockRead {
+    pub records: Vec<Raw062>,
+    pub refused: Option<Refused>,
+}
+
+/// Reads the body of a block of category 62, whose first octet stands at this place in the feed.
+pub fn read_block(alloc: Global, body: &[u8], offset: u64) -> Result<BlockRead, NoMemory>
+    requires room { length body.now ≤ 65535 }
+    requires early { offset ≤ 2 ^ 40 }
+    ensures records { IfOk result (λ read. read.records.items ≡ records body.now) }
+    ensures refused { IfOk result (λ read. read.refused ≡ refused_from offset (refusal body.now)) }
+    ensures placed { IfOk result (λ read. All IsPlaced read.records.items) }
+{
+    let mut records = Vec::new(alloc);
+    let mut rest = body;
+    while !rest.is_empty() {
+        match read_record(rest) {
+            Ok((raw, size)) => {
+                records.push(raw)?;
+                let (_, after) = rest.split_at(size);
+                rest = after;
+            }
+            Err(fault) => {
+                let offset = offset + (body.len() - rest.len()) as u64;
+                return Ok(BlockRead {
+                    records,
+                    refused: Some(Refused { offset, fault }),
+                });
+            }
+        }
+    }
+    Ok(BlockRead {
+        records,
+        refused: None,
+    })
+}

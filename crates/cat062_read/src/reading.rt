@@ -1,0 +1,66 @@
+//! The record that octets begin with.
+ghost use Rattle.std.specs.Prelude.{◌≡◌, ◌≤◌, ◌<◌, ◌+◌, ◌-◌, ◌++◌, ℕ, List, IfOk, All, length, slice_index_or};
+ghost use Rattle.asterix_fields.specs.Spelling.{texts_at};
+ghost use Rattle.asterix_fields.specs.Faults.{fault_of};
+ghost use Rattle.cat062_read.specs.Contents.{contents, item};
+ghost use Rattle.cat062_read.specs.Records.{Spells062, IsFront, fault062, reading};
+ghost use Rattle.cat062_read.specs.Tracks.{IsPlaced};
+
+use crate::item;
+use crate::record::Raw062;
+use crate::table::{CAT062, SUBS062};
+use asterix_fields::{ItemFault, Span, walk};
+
+// What is read of a record: each field from the octets of the item of its FRN.
+macro_rules! contents {
+    ($bytes:ident, $spans:expr; $($frn:literal => $field:ident by $reader:ident),+ $(,)?) => {
+        Raw062 { $($field: item::$reader(text_of($bytes, &$spans, $frn))),+ }
+    };
+}
+
+/// The record that the octets begin with, and how many octets it has; others may follow. Where they begin
+/// no record, the first fault. No memory is taken.
+pub fn read_record(bytes: &[u8]) -> Result<(Raw062, usize), ItemFault>
+    requires { length bytes.now ≤ 65535 }
+
+    // What is read is spelled so.
+    ensures spelled { IfOk result (λ found. IsFront bytes.now found.0 found.1) }
+    // What is spelled is read, whatever follows it; so where there is a fault no record is spelled.
+    ensures only { (text rest : List ℕ) (items : List (List ℕ)) → Spells062 text items →
+        bytes.now ≡ text ++ rest → result ≡ Ok (contents items, length text) }
+    ensures fault { fault_of result ≡ fault062 bytes.now }
+    ensures reading { result ≡ reading bytes.now }
+    ensures placed { IfOk result (λ found. IsPlaced found.0) }
+{
+    let found = walk(&CAT062, &SUBS062, bytes)?;
+    let raw = contents!(bytes, found.spans;
+        1 => source by source,
+        4 => time by time,
+        5 => wgs by wgs,
+        6 => xy by position,
+        7 => speed by speed,
+        8 => accel by acceleration,
+        9 => code by code,
+        12 => number by number,
+        13 => tentative by is_tentative,
+        13 => simulated by is_simulated,
+        13 => ended by is_ended,
+        17 => flight_level by signed,
+        19 => baro by barometric,
+        20 => rate by signed,
+    );
+    Ok((raw, found.length as usize))
+}
+
+/// The octets of an item, by its FRN; none, where it is absent.
+fn text_of<'a>(bytes: &'a [u8], spans: &[Span], frn: usize) -> &'a [u8]
+    requires within { All (λ span. span.at + span.len ≤ length bytes.now) spans.now }
+    requires from_one { 1 ≤ frn }
+    requires in_table { frn ≤ length spans.now }
+    ensures { result.now ≡ item (texts_at bytes.now spans.now) frn }
+{
+    let span = spans[frn - 1];
+    let (_, from) = bytes.split_at(span.at as usize);
+    let (text, _) = from.split_at(span.len as usize);
+    text
+}
