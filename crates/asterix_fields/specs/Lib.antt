@@ -3,3 +3,4 @@ pub mod Tables
 pub mod Spelling
 pub mod Faults
 pub mod FirstFault
+pub mod Reading

@@ -9,6 +9,7 @@ ghost use Rattle.asterix_fields.specs.Spelling.{Spells, IsWalk, Item, Stands, is
 ghost use Rattle.asterix_fields.specs.declared.fault.ItemFault.{ItemFault};
 ghost use Rattle.asterix_fields.specs.Faults.{fault};
 ghost use Rattle.asterix_fields.specs.FirstFault.{IsFirstFault};
+ghost use Rattle.asterix_fields.specs.Reading.{AllReadAsSpelled};
 ghost use Rattle.asterix_fields.specs.Numbers.{big_endian, octets, AreOctets};
 
 /// A number that was written as octets is read again.
@@ -41,4 +42,10 @@ pub fn item_of_walk()
 pub fn one_fault()
     ensures { (uap subs : List Form) → WellFormed uap subs → (bytes : List ℕ) (found : ItemFault) →
         (fault uap subs bytes ≡ Some found) ↔ IsFirstFault uap subs bytes found }
+{}
+
+/// A record is found exactly where one is spelled. A crate that reads a category's records needs no more
+/// than this of how they are found.
+pub fn read_as_spelled()
+    ensures { AllReadAsSpelled }
 {}

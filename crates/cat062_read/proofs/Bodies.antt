@@ -4,6 +4,7 @@ use Rattle.std.proofs.lemmas.List.{append-nil}
 use Rattle.std.specs.List.{All}
 use Rattle.std.proofs.lemmas.List.Elements.{All-append, All-from_recursion}
 use Rattle.asterix_fields.specs.declared.fault.ItemFault.{ItemFault}
+use Rattle.asterix_fields.specs.Reading.{AllReadAsSpelled}
 use Rattle.cat062_read.specs.declared.record.Raw062.{Raw062}
 use Rattle.cat062_read.specs.Records.{reading, records, left_of, refused_at, refusal, refused_from}
 use Rattle.cat062_read.specs.Tracks.{IsPlaced}
@@ -14,12 +15,12 @@ refused_some : (rest : List ℕ) (size offset : ℕ) (f : ItemFault) → 0 < len
 refused_some [] size offset f some e = absurd (omega arith)
 refused_some (octet ∷ more) size offset f some e = rw (fault_read (octet ∷ more) f e) refl
 
-pub stops_refused : (body rest : List ℕ) (done : List Raw062) (offset : ℕ) (f : ItemFault) → done ++ records rest ≡ records body → left_of rest ≡ left_of body
+pub stops_refused : (law : AllReadAsSpelled) (body rest : List ℕ) (done : List Raw062) (offset : ℕ) (f : ItemFault) → done ++ records rest ≡ records body → left_of rest ≡ left_of body
     → 0 < length rest → reading rest ≡ Err f
     → (done ≡ records body) × (Some (record { offset = offset + (length body - length rest); fault = f }) ≡ refused_from offset (refusal body))
 unfolding refusal
-stops_refused body rest done offset f told same some e =
-    let end = read_end rest f e in
+stops_refused law body rest done offset f told same some e =
+    let end = read_end law rest f e in
     let left : left_of body ≡ rest = sym same ∙ end.1 in (
       sym (append-nil done) ∙ ap (λ (later : List Raw062). done ++ later) (sym end.0) ∙ told,
       sym (ap (λ (l : List ℕ). refused_from offset (refused_at (length body) l)) left ∙ refused_some rest (length body) offset f some e),
@@ -44,11 +45,11 @@ pub record GoesOn (body rest : List ℕ) (done : List Raw062) (raw : Raw062) (si
   pub same_left : left_of (drop size rest) ≡ left_of body
   pub fewer : length (drop size rest) < length rest
 
-pub goes_on : (body rest : List ℕ) (done : List Raw062) (raw : Raw062) (size : ℕ) → done ++ records rest ≡ records body → left_of rest ≡ left_of body
+pub goes_on : (law : AllReadAsSpelled) (body rest : List ℕ) (done : List Raw062) (raw : Raw062) (size : ℕ) → done ++ records rest ≡ records body → left_of rest ≡ left_of body
     → 0 < length rest → reading rest ≡ Ok (raw, size) → GoesOn body rest done raw size
-goes_on body rest done raw size told same some e =
-    let more = read_more rest (raw, size) e in
-    let one : 1 ≤ size = size_some rest (raw, size) e in
+goes_on law body rest done raw size told same some e =
+    let more = read_more law rest (raw, size) e in
+    let one : 1 ≤ size = size_some law rest (raw, size) e in
     let left : length (drop size rest) ≡ length rest - size = length-drop size rest in
     record {
       told = append_assoc done (raw ∷ []) (records (drop size rest)) ∙ ap (λ (later : List Raw062). done ++ later) (sym more.0) ∙ told;

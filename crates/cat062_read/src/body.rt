@@ -6,6 +6,7 @@ ghost use Rattle.cat062_read.specs.Tracks.{IsPlaced};
 use crate::reading::read_record;
 use crate::record::Raw062;
 use asterix_fields::ItemFault;
+use asterix_fields::laws::read_as_spelled;
 use std::alloc::{AllocError, Global};
 
 /// Want of memory.
@@ -33,6 +34,8 @@ pub fn read_block(alloc: Global, body: &[u8], offset: u64) -> Result<BlockRead, 
     ensures refused { IfOk result (λ read. read.refused ≡ refused_from offset (refusal body.now)) }
     ensures placed { IfOk result (λ read. All IsPlaced read.records.items) }
 {
+    // The proof takes this law; the call does nothing.
+    read_as_spelled();
     let mut records = Vec::new(alloc);
     let mut rest = body;
     while !rest.is_empty() {

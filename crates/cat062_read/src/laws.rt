@@ -4,11 +4,15 @@ ghost use Rattle.asterix_fields.specs.Spelling.{joined};
 ghost use Rattle.cat062_read.specs.Contents.{contents};
 ghost use Rattle.cat062_read.specs.Records.{IsRead, IsRefusal, records, refusal};
 
+use asterix_fields::laws::read_as_spelled;
+
 /// Each body can be read as records and a rest that begins none.
 pub fn some_reading()
     ensures { (body : List ℕ) →
         (texts : List (List ℕ)) × (items : List (List (List ℕ))) × (rest : List ℕ) × IsRead body texts items rest }
-{}
+{
+    read_as_spelled();
+}
 
 /// However a body is read, its records are those of the definition, and so is what is refused of it. So no
 /// two readings of a body differ in what is read or in what is refused.
@@ -16,4 +20,6 @@ pub fn one_reading()
     ensures { (body : List ℕ) (texts : List (List ℕ)) (items : List (List (List ℕ))) (rest : List ℕ) →
         IsRead body texts items rest →
         (records body ≡ map contents items) × IsRefusal rest (length (joined texts)) (refusal body) }
-{}
+{
+    read_as_spelled();
+}

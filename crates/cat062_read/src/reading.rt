@@ -9,6 +9,7 @@ ghost use Rattle.cat062_read.specs.Tracks.{IsPlaced};
 use crate::item;
 use crate::record::Raw062;
 use crate::table::{CAT062, SUBS062};
+use asterix_fields::laws::read_as_spelled;
 use asterix_fields::{ItemFault, Span, walk};
 
 // What is read of a record: each field from the octets of the item of its FRN.
@@ -32,6 +33,8 @@ pub fn read_record(bytes: &[u8]) -> Result<(Raw062, usize), ItemFault>
     ensures reading { result ≡ reading bytes.now }
     ensures placed { IfOk result (λ found. IsPlaced found.0) }
 {
+    // The proof takes this law; the call does nothing.
+    read_as_spelled();
     let found = walk(&CAT062, &SUBS062, bytes)?;
     let raw = contents!(bytes, found.spans;
         1 => source by source,

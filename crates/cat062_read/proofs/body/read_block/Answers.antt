@@ -4,7 +4,7 @@ use Rattle.cat062_read.proofs.body.read_block.Goals as goal
 
 more : (c : goal.After-after-1) → GoesOn c.args.body.now c.loop-rest.rest.now c.loop-rest.records.items c.in-Ok.raw c.in-Ok.size
 more c =
-    goes_on c.args.body.now c.loop-rest.rest.now c.loop-rest.records.items c.in-Ok.raw c.in-Ok.size c.loop-rest.invariant.told c.loop-rest.invariant.same_left
+    goes_on c.read_as_spelled.ensures c.args.body.now c.loop-rest.rest.now c.loop-rest.records.items c.in-Ok.raw c.in-Ok.size c.loop-rest.invariant.told c.loop-rest.invariant.same_left
     (some_left (length c.loop-rest.rest.now) c.loop-rest-test.ensures) (sym c.in-Ok.ensures.reading)
 
 pub loop-rest-smaller : goal.loop-rest-smaller
@@ -20,12 +20,12 @@ loop-rest-preserved c =
 
 pub returns-in-Err-clause-records : goal.returns-in-Err-clause-records
 returns-in-Err-clause-records c =
-    (stops_refused c.args.body.now c.loop-rest.rest.now c.loop-rest.records.items c.args.offset c.in-Err.fault c.loop-rest.invariant.told c.loop-rest.invariant.same_left
+    (stops_refused c.read_as_spelled.ensures c.args.body.now c.loop-rest.rest.now c.loop-rest.records.items c.args.offset c.in-Err.fault c.loop-rest.invariant.told c.loop-rest.invariant.same_left
     (some_left (length c.loop-rest.rest.now) c.loop-rest-test.ensures) (sym c.in-Err.ensures.reading)).0
 
 pub returns-in-Err-clause-refused : goal.returns-in-Err-clause-refused
 returns-in-Err-clause-refused c =
-    (stops_refused c.args.body.now c.loop-rest.rest.now c.loop-rest.records.items c.args.offset c.in-Err.fault c.loop-rest.invariant.told c.loop-rest.invariant.same_left
+    (stops_refused c.read_as_spelled.ensures c.args.body.now c.loop-rest.rest.now c.loop-rest.records.items c.args.offset c.in-Err.fault c.loop-rest.invariant.told c.loop-rest.invariant.same_left
     (some_left (length c.loop-rest.rest.now) c.loop-rest-test.ensures) (sym c.in-Err.ensures.reading)).1
 
 pub returns-clause-records : goal.returns-clause-records

@@ -9,7 +9,7 @@ use Rattle.cat062_read.proofs.reading.read_record.Goals as goal
 
 pub returns-in_err-found-clause-only : goal.returns-in_err-found-clause-only
 returns-in_err-found-clause-only c = λ text rest items spelled same.
-    absurd (none_read c.args.bytes.now c.in_err-found.field-0.0 (walk_fails c.args.bytes.now c.in_err-found.field-0.0 c.in_err-found.ensures.fault) text rest items spelled same)
+    absurd (none_read c.read_as_spelled.ensures c.args.bytes.now c.in_err-found.field-0.0 (walk_fails c.args.bytes.now c.in_err-found.field-0.0 c.in_err-found.ensures.fault) text rest items spelled same)
 
 pub returns-in_err-found-clause-fault : goal.returns-in_err-found-clause-fault
 returns-in_err-found-clause-fault c =
@@ -40,13 +40,13 @@ told c =
     let baro_is : c.barometric.result ≡ barometric (item texts 19) = c.barometric.ensures ∙ ap barometric c.text_of-13.ensures in
     let rate_is : c.signed-2.result ≡ signed (item texts 20) = c.signed-2.ensures ∙ ap signed c.text_of-14.ensures in
     let same : (let raw : Raw062 = record { source = c.source.result; time = c.time.result; wgs = c.wgs.result; xy = c.position.result; speed = c.speed.result; accel = c.acceleration.result; code = c.code.result; number = c.number.result; tentative = c.is_tentative.result; simulated = c.is_simulated.result; ended = c.is_ended.result; flight_level = c.signed.result; baro = c.barometric.result; rate = c.signed-2.result } in raw) ≡ contents texts = rw (source_is, time_is, wgs_is, xy_is, speed_is, accel_is, code_is, number_is, tentative_is, simulated_is, ended_is, flight_level_is, baro_is, rate_is) refl in
-    walk_is c.args.bytes.now c.in_ok-found.found.spans c.in_ok-found.found.length c.in_ok-found.ensures.spelled ∙ ap (λ (raw : Raw062). Ok (raw, c.in_ok-found.found.length)) (sym same)
+    walk_is c.read_as_spelled.ensures c.args.bytes.now c.in_ok-found.found.spans c.in_ok-found.found.length c.in_ok-found.ensures.spelled ∙ ap (λ (raw : Raw062). Ok (raw, c.in_ok-found.found.length)) (sym same)
 
 pub returns-clause-spelled : goal.returns-clause-spelled
-returns-clause-spelled c = what_is_read c.args.bytes.now _ (told c)
+returns-clause-spelled c = what_is_read c.read_as_spelled.ensures c.args.bytes.now _ (told c)
 
 pub returns-clause-only : goal.returns-clause-only
-returns-clause-only c = only_read c.args.bytes.now _ (told c)
+returns-clause-only c = only_read c.read_as_spelled.ensures c.args.bytes.now _ (told c)
 
 pub returns-clause-fault : goal.returns-clause-fault
 returns-clause-fault c = sym (none_refused c.args.bytes.now _ (told c))
