@@ -1,8 +1,9 @@
 -- The square of the distance of two motions as a parabola over the ticks, and its least tick.
-use Rattle.std.proofs.Common.{◌≡◌, ℕ, ℤ, pos, ◌+ℤ◌, ◌-ℤ◌, ◌*ℤ◌, ◌≤ℤ◌, ◌<ℤ◌, ◌≤◌, sym, ap, ◌∙◌, arith}
+use Rattle.std.proofs.Common.{◌≡◌, ℕ, ◌+◌, ◌*◌, ℤ, pos, neg_ℤ, ◌+ℤ◌, ◌-ℤ◌, ◌*ℤ◌, ◌≤ℤ◌, ◌<ℤ◌, ◌≤◌, sym, ap, ◌∙◌, arith}
+use Rattle.std.proofs.Math.IntN.{*ℤ_comm}
+use borrow.Author.Differences.{up, down, sum_is_lem, neg_is, product_is}
 use Rattle.std.specs.Int.RustNames.{unsigned_abs}
 use Rattle.std.proofs.lemmas.Int.{ints}
-use Rattle.tick_sets.proofs.Products.{products, spread, times_assoc}
 use Rattle.tick_sets.specs.Ticks.{IsLeastTick}
 use Rattle.replay_cli.specs.declared.motion.Motion.{Motion}
 use Rattle.replay_cli.specs.Motions.{apart, squared_at, dx_at, dy_at}
@@ -10,16 +11,35 @@ use Rattle.replay_cli.specs.Roots.{least_tick}
 use Rattle.replay_cli.proofs.Rooted.{closest_is}
 use Rattle.replay_cli.proofs.Signed.{squares_positive, natural}
 
+-- products spread over sums and lean to the right, for `simp`
+times_sum : (a b c : ℤ) → a *ℤ (b +ℤ c) ≡ a *ℤ b +ℤ a *ℤ c
+times_sum a b c = omega (arith, ints, ap (λ (x : ℕ). up a * x) (sum_is_lem b c), ap (λ (x : ℕ). down a * x) (sum_is_lem b c))
+
+sum_times : (a b c : ℤ) → (b +ℤ c) *ℤ a ≡ b *ℤ a +ℤ c *ℤ a
+sum_times a b c = *ℤ_comm (b +ℤ c) a ∙ times_sum a b c ∙ rw (*ℤ_comm a b, *ℤ_comm a c)
+
+neg_times : (a b : ℤ) → neg_ℤ b *ℤ a ≡ neg_ℤ (b *ℤ a)
+neg_times a b = omega (arith, ints, ap (λ (x : ℕ). up a * x) (neg_is b).0, ap (λ (x : ℕ). up a * x) (neg_is b).1, ap (λ (x : ℕ). down a * x) (neg_is b).0, ap (λ (x : ℕ). down a * x) (neg_is b).1)
+
+-- a product of three, in the parts of its factors
+triple_is : (a b c : ℤ) → (up (a *ℤ (b *ℤ c)) ≡ up a * up b * up c + up a * down b * down c + down a * up b * down c + down a * down b * up c) × (down (a *ℤ (b *ℤ c)) ≡ up a * up b * down c + up a * down b * up c + down a * up b * up c + down a * down b * down c)
+triple_is a b c = omega (arith, product_is a (b *ℤ c), ap (λ (x : ℕ). up a * x) (product_is b c).0, ap (λ (x : ℕ). up a * x) (product_is b c).1, ap (λ (x : ℕ). down a * x) (product_is b c).0, ap (λ (x : ℕ). down a * x) (product_is b c).1)
+
+times_assoc : (a b c : ℤ) → (a *ℤ b) *ℤ c ≡ a *ℤ (b *ℤ c)
+times_assoc a b c = *ℤ_comm (a *ℤ b) c ∙ omega (arith, ints, triple_is a b c, triple_is c a b)
+
+ruleset spread = (times_sum, sum_times, neg_times, times_assoc)
+
 -- a distance along one axis grows with the ticks
 apart_is : (p v q w t : ℤ) → apart p v q w t ≡ (q -ℤ p) +ℤ (w -ℤ v) *ℤ t
 apart_is p v q w t = simp spread (omega (arith, ints))
 
 -- its square is a parabola
 square_of_sum : (d u : ℤ) → (d +ℤ u) *ℤ (d +ℤ u) ≡ (u *ℤ u +ℤ pos 2 *ℤ (d *ℤ u)) +ℤ d *ℤ d
-square_of_sum d u = simp spread (omega (arith, products))
+square_of_sum d u = simp spread (omega (arith, ints))
 
 middle : (e t : ℤ) → t *ℤ (e *ℤ t) ≡ e *ℤ (t *ℤ t)
-middle e t = omega (arith, products)
+middle e t = sym (times_assoc t e t) ∙ ap (λ u. u *ℤ t) (*ℤ_comm t e) ∙ times_assoc e t t
 
 square_of_product : (e t : ℤ) → (e *ℤ t) *ℤ (e *ℤ t) ≡ e *ℤ e *ℤ t *ℤ t
 square_of_product e t = times_assoc e t (e *ℤ t) ∙ ap (λ u. e *ℤ u) (middle e t) ∙ sym (times_assoc e e (t *ℤ t)) ∙ sym (times_assoc (e *ℤ e) t t)

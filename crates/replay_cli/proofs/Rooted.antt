@@ -3,7 +3,6 @@ use Rattle.std.proofs.Common.{◌≡◌, ℕ, ◌+◌, ◌*◌, ◌<◌, ◌≤�
 use Rattle.std.proofs.lemmas.Bool.{cases_lt}
 use Rattle.std.proofs.lemmas.Bool.Decides.{nat_tests}
 use borrow.Author.Tests.{ltb-true, ltb-false}
-use Rattle.tick_sets.proofs.Roots.{root_unique}
 use Rattle.replay_cli.specs.Roots.{root, least_tick}
 
 pub root_below : (n : ℕ) → root n * root n ≤ n
@@ -15,10 +14,6 @@ pub root_above : (n : ℕ) → n < (root n + 1) * (root n + 1)
 unfolding root
 root_above zero = omega arith
 root_above (suc n) = let above = root_above n in grind (arith, nat_tests)
-
--- no other number is a root rounded down
-pub root_is : (n r : ℕ) → r * r ≤ n → n < (r + 1) * (r + 1) → r ≡ root n
-root_is n r below above = root_unique n r (root n) below above (root_below n) (root_above n)
 
 -- the least tick is one of the ticks
 pub least_within : (f : ℕ → ℕ) (last : ℕ) → least_tick f last ≤ last

@@ -1,19 +1,8 @@
--- Newton's step towards a square root, and that the root rounded down is one number.
-use Rattle.std.proofs.Common.{sym, refl, zero-lt-suc, ◌≡◌, ℕ, zero, suc, ◌+◌, ◌-◌, ◌*◌, ◌/◌, ◌%◌, ◌^◌, ◌<◌, ◌≤◌, ⊎_elim, arith, subst, ap, mul-le-mul_left, mul-le-mul_right, mul-le-mul, le_antisymm, pow_mono, mul-pos, min, mul_comm, pow-suc, two-mul, ◌∙◌}
+-- Newton's step towards a square root.
+use Rattle.std.proofs.Common.{sym, refl, zero-lt-suc, ◌≡◌, ℕ, zero, suc, ◌+◌, ◌-◌, ◌*◌, ◌/◌, ◌%◌, ◌^◌, ◌<◌, ◌≤◌, ⊎_elim, arith, subst, ap, mul-le-mul_left, mul-le-mul_right, pow_mono, mul-pos, min, mul_comm, pow-suc, two-mul, ◌∙◌}
 use lib.Count.{count_leading_zeros}
 use Rattle.std.proofs.lemmas.Nat.{div_below, div-add-mod', mod_below, leading_length, pow-add, pow_pos, one_shl, shl_whole, mul-le, shr_below, shr_split, le-div}
 use Rattle.std.proofs.lemmas.Bool.{cases_lt}
-
--- the larger of two numbers has the larger square
-pub square_below : (r s : ℕ) → s < r → (s + 1) * (s + 1) ≤ r * r
-square_below r s h = let up : s + 1 ≤ r = omega arith in mul-le-mul up up
-
--- a root rounded down is determined
-root_le : (n r s : ℕ) → r * r ≤ n → n < (s + 1) * (s + 1) → r ≤ s
-root_le n r s low high = ⊎_elim (λ below. absurd (omega (arith, square_below r s below))) (λ h. h) (cases_lt s r)
-
-pub root_unique : (n r s : ℕ) → r * r ≤ n → n < (r + 1) * (r + 1) → s * s ≤ n → n < (s + 1) * (s + 1) → r ≡ s
-root_unique n r s r_low r_high s_low s_high = le_antisymm (root_le n r s r_low s_high) (root_le n s r s_low r_high)
 
 -- the product of two numbers is at most the square of half their sum
 product_near : (x d p : ℕ) → p ≤ x + 2 * d → x * p ≤ (x + d) * (x + d)

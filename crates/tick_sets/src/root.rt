@@ -1,4 +1,4 @@
-ghost use Rattle.std.specs.Prelude.{◌+◌, ◌*◌, ◌^◌, ◌<◌, ◌≤◌};
+ghost use Rattle.std.specs.Prelude.{◌≡◌, ℕ, ◌+◌, ◌*◌, ◌^◌, ◌<◌, ◌≤◌};
 
 /// The square root of `n`, rounded down.
 ///
@@ -9,6 +9,7 @@ ghost use Rattle.std.specs.Prelude.{◌+◌, ◌*◌, ◌^◌, ◌<◌, ◌≤�
 pub fn isqrt(n: u128) -> u128
     ensures square_le { result * result ≤ n }
     ensures next_square_gt { n < (result + 1) * (result + 1) }
+    ensures only { (r : ℕ) → r * r ≤ n → n < (r + 1) * (r + 1) → result ≡ r }
     ensures bound { result < 2 ^ 64 }
 {
     if n < 0x1_0000_0000_0000_0000 {
