@@ -67,6 +67,11 @@ impl Cutter {
         ensures block { IfOk result (λ found. IfSome found (λ block. Gives self.old block self.new)) }
         ensures given { IfOk result (λ found. IfSome found (λ block. (fed : List ℕ) (given : List Block) → Cuts self.old fed given → Cuts self.new fed (given ++ block ∷ []))) }
 
+        // Where it stands, and that it has no more octets than its length can say.
+        ensures place { IfOk result (λ found. IfSome found (λ block. block.offset ≡ self.old.offset)) }
+        ensures early { IfOk result (λ found. IfSome found (λ block. block.offset ≤ FEED_ROOM)) }
+        ensures bound { IfOk result (λ found. IfSome found (λ block. 3 + length block.body ≤ 65535)) }
+
         // None only where what was fed has no further block.
         ensures none { IfOk result (λ found. IfNone found ((coming self.old []).blocks ≡ [])) }
         ensures all { IfOk result (λ found. IfNone found ((fed : List ℕ) (given : List Block) → Cuts self.old fed given → given ≡ blocks fed)) }

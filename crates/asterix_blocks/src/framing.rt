@@ -13,14 +13,16 @@ pub const HEADER_LENGTH: usize = 3;
 /// What the octets 2 and 3 say.
 fn declared_length(octets: &[u8]) -> usize
     requires { 3 ≤ length octets.now }
-    ensures { result ≡ declared_length octets.now }
+    ensures length { result ≡ declared_length octets.now }
+    ensures bound { result ≤ 65535 }
 {
     usize::from(be16([octets[1], octets[2]]))
 }
 
 /// How many octets the block at the front takes, if a whole one stands there.
 pub fn whole_length(octets: &[u8]) -> Option<usize>
-    ensures { result ≡ (if begins_whole octets.now then Some (declared_length octets.now) else None) }
+    ensures length { result ≡ (if begins_whole octets.now then Some (declared_length octets.now) else None) }
+    ensures bound { IfSome result (λ length. length ≤ 65535) }
 {
     if octets.len() < HEADER_LENGTH {
         return None;
@@ -37,6 +39,8 @@ pub fn first_block(alloc: Global, octets: &[u8], offset: u64) -> Result<Option<B
     ensures block { IfOk result (λ found. found ≡ (if begins_whole octets.now then Some (first_block offset octets.now) else None)) }
     ensures length { IfOk result (λ found. IfSome found (λ block. 3 + length block.body ≡ declared_length octets.now)) }
     ensures within { IfOk result (λ found. IfSome found (λ block. 3 + length block.body ≤ length octets.now)) }
+    ensures bound { IfOk result (λ found. IfSome found (λ block. 3 + length block.body ≤ 65535)) }
+    ensures place { IfOk result (λ found. IfSome found (λ block. block.offset ≡ offset)) }
 {
     match whole_length(octets) {
         None => Ok(None),

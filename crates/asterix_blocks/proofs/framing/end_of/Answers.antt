@@ -5,7 +5,7 @@ use Rattle.asterix_blocks.proofs.framing.end_of.Goals as goal
 
 abbrev more : (c : goal.In-Some) → OneMore c.args.octets.now c.loop-length.at c.in-Some.length
 more c =
-    OneMore-found c.args.octets.now _ c.loop-length.at c.in-Some.length _ c.loop-length.invariant.within (rest_from _ _ c.loop-length.at refl) c.whole_length.ensures c.in-Some.is
+    OneMore-found c.args.octets.now _ c.loop-length.at c.in-Some.length _ c.loop-length.invariant.within (rest_from _ _ c.loop-length.at refl) c.whole_length.ensures.length c.in-Some.is
 
 pub loop-length-preserved : goal.loop-length-preserved
 loop-length-preserved c =
@@ -22,5 +22,5 @@ returns c =
     let octets : List ℕ = c.args.octets.now in
     let at : ℕ = c.loop-length.at in
     c.end_at.ensures
-    ∙ ap (λ (f : Framing). f.end) (sym (framing_from-left octets _ at (c.args.offset + at) _ _ (rest_from _ _ at refl) c.whole_length.ensures c.in_default.is))
+    ∙ ap (λ (f : Framing). f.end) (sym (framing_from-left octets _ at (c.args.offset + at) _ _ (rest_from _ _ at refl) c.whole_length.ensures.length c.in_default.is))
     ∙ c.loop-length.invariant.same
