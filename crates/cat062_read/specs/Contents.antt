@@ -1,10 +1,15 @@
 -- What is read of a record's items, by their texts (ASTERIX part 9, category 062; which items are used is this project's profile).
 use Rattle.std.specs.Prelude.{ℕ, ℤ, ◌-◌, ◌+◌, ◌/◌, ◌%◌, ◌^◌, ◌==◌, Bool, List, [], ◌∷◌, length, slice_index, slice_index_or, Option, Some, None, if◌then◌else◌}
 use Rattle.asterix_fields.specs.Numbers.{big_endian, twos_complement}
-use Rattle.cat062_read.specs.SimpleForm.{two_at, three_at}
 use Rattle.cat062_read.specs.declared.record.Raw062.{Raw062}
 
--- the number in four octets, from a place on
+-- the number in two octets, three or four, from a place on
+abbrev pub two_at : List ℕ → ℕ → ℕ
+two_at text at = big_endian (slice_index text at ∷ slice_index text (at + 1) ∷ [])
+
+abbrev pub three_at : List ℕ → ℕ → ℕ
+three_at text at = big_endian (slice_index text at ∷ slice_index text (at + 1) ∷ slice_index text (at + 2) ∷ [])
+
 abbrev pub four_at : List ℕ → ℕ → ℕ
 four_at text at = big_endian (slice_index text at ∷ slice_index text (at + 1) ∷ slice_index text (at + 2) ∷ slice_index text (at + 3) ∷ [])
 

@@ -1,4 +1,3 @@
-pub mod SimpleForm
 pub mod Tracks
 pub mod Contents
 pub mod Records

@@ -11,7 +11,7 @@ pub mod track;
 
 pub use body::{BlockRead, NoMemory, Refused, read_block};
 pub use reading::read_record;
-pub use record::{BLOCK_LENGTH, Raw062, read_simple};
+pub use record::Raw062;
 pub use table::{CAT062, SUBS062, tables_hold};
 pub use track::{TICKS_PER_DAY, Track, TrackKey, track_of};
 

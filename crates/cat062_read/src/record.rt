@@ -1,15 +1,4 @@
 //! The contents of a record.
-ghost use Rattle.std.specs.Prelude.{◌≡◌, ◌↔◌, IsSome, IfSome, IsTrue, length};
-ghost use Rattle.cat062_read.specs.SimpleForm.{IsSimple, raw_of};
-ghost use Rattle.cat062_read.specs.Tracks.{IsPlaced};
-
-use asterix_fields::{be16, be24, signed16, signed24};
-
-/// The octets of a block in the one form.
-pub const BLOCK_LENGTH: usize = 28;
-
-/// Category 62, the block's length, and the FSPEC of the eight items of the one form.
-const HEAD: [u8; 6] = [0x3e, 0x00, 0x1c, 0x97, 0x0d, 0x24];
 
 /// The items of a record that the profile uses, as they stand in it (ASTERIX part 9).
 #[derive(Clone, Copy, Debug, PartialEq, Eq)]
@@ -42,55 +31,4 @@ pub struct Raw062 {
     pub simulated: bool,
     /// 080: this is the last message for the track.
     pub ended: bool,
-}
-
-/// The contents of the record of a block in the one form that is read: 28 octets, a record of items
-/// 010, 070, 100, 185, 040, 080 without an extension, 136 and 220. None for any other block.
-pub fn read_simple(block: &[u8]) -> Option<Raw062>
-    ensures form { IsSome result ↔ IsSimple block.now }
-    ensures contents { IfSome result (λ raw. raw ≡ raw_of block.now) }
-    ensures placed { IfSome result IsPlaced }
-{
-    if !is_simple(block) {
-        return None;
-    }
-    Some(contents(block))
-}
-
-/// The block is of the one form.
-fn is_simple(block: &[u8]) -> bool
-    ensures { IsTrue result ↔ IsSimple block.now }
-{
-    block.len() == BLOCK_LENGTH && &block[..6] == HEAD.as_slice() && block[23] % 2 == 0
-}
-
-/// The contents of the eight items.
-fn contents(block: &[u8]) -> Raw062
-    requires { length block.now ≡ 28 }
-    ensures contents { result ≡ raw_of block.now }
-    ensures placed { IsPlaced result }
-{
-    Raw062 {
-        source: Some((block[6], block[7])),
-        time: Some(be24([block[8], block[9], block[10]])),
-        xy: Some((
-            signed24([block[11], block[12], block[13]]),
-            signed24([block[14], block[15], block[16]]),
-        )),
-        speed: Some((
-            signed16([block[17], block[18]]),
-            signed16([block[19], block[20]]),
-        )),
-        number: Some(be16([block[21], block[22]])),
-        // Bit 2 of the track status.
-        tentative: block[23] / 2 % 2 == 1,
-        flight_level: Some(signed16([block[24], block[25]])),
-        rate: Some(signed16([block[26], block[27]])),
-        wgs: None,
-        accel: None,
-        baro: None,
-        code: None,
-        simulated: false,
-        ended: false,
-    }
 }

@@ -1,5 +1,5 @@
 -- When a device may answer that it failed, by its count of faults (this project's profile).
-use Rattle.std.specs.Prelude.{◌≡◌, ℕ, ◌+◌, ◌-◌, ◌^◌, ◌≤◌, min, Result, OnOk, OnErr}
+use Rattle.std.specs.Prelude.{ℕ, ◌+◌, ◌-◌, ◌^◌, ◌≤◌, min, Result, OnErr}
 
 -- the count has risen, or stands at its last value
 abbrev pub Rose : ℕ → ℕ → Type 0
@@ -9,7 +9,3 @@ Rose before now = min (before + 1) (2 ^ 64 - 1) ≤ now
 pub record HasCause {T E : Type 0} (before now : ℕ) (result : Result T E) : Type 0 where
   pub later : before ≤ now
   pub failed : OnErr result (Rose before now)
-
--- the count's number changes only at a call that fails
-abbrev pub ChangesOnErr : {T E : Type 0} → ℕ → ℕ → Result T E → Type 0
-ChangesOnErr before now result = OnOk result (now ≡ before)

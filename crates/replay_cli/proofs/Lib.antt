@@ -1,10 +1,12 @@
 pub mod Closest
+pub mod Corrections
 pub mod Current
+pub mod Cycles
 pub mod Ends
-pub mod Framing
+pub mod Keys
 pub mod Lists
 pub mod Messages
 pub mod Read
 pub mod Rooted
-pub mod Rows
 pub mod Signed
+pub mod Tables

@@ -92,3 +92,12 @@ far_along_one x y (negsuc l) low far = absurd (omega (arith, ints))
 -- a number that isn't negative is its absolute value
 pub natural : (z : ℤ) → pos 0 ≤ℤ z → z ≡ pos (unsigned_abs z)
 natural z low = omega (arith, ints)
+
+-- a sum of two numbers that are small is what it is
+pub sum_is : (a b : ℤ) → unsigned_abs a ≤ 2 ^ 40 → unsigned_abs b ≤ 2 ^ 40 → to_z w64 (of_z w64 (to_z w64 (of_z w64 a) +ℤ to_z w64 (of_z w64 b))) ≡ a +ℤ b
+sum_is a b small_a small_b =
+    let fits_a : FitsSigned w64 a = fits_signed_from_abs w64 a (omega arith) in
+    let fits_b : FitsSigned w64 b = fits_signed_from_abs w64 b (omega arith) in
+    let bound : unsigned_abs (a +ℤ b) ≤ 2 ^ 40 + 2 ^ 40 = sum_bound a b (2 ^ 40) (2 ^ 40) small_a small_b in
+    let fits : FitsSigned w64 (a +ℤ b) = fits_signed_from_abs w64 _ (omega arith) in
+    simp to_z-of_z

@@ -1,5 +1,5 @@
 -- A cycle: the rows of its table, those that are eligible, the hits of all pairs, and the events (this project's profile).
-use Rattle.std.specs.Prelude.{ℕ, ◌%◌, ◌^◌, Bool, false, ◌&&◌, not, List, [], ◌∷◌, ◌++◌, map, Option, Some, None, ℤ, pos, ◌+ℤ◌, ◌==◌, if◌then◌else◌}
+use Rattle.std.specs.Prelude.{ℕ, ◌%◌, ◌^◌, Bool, false, ◌&&◌, not, List, [], ◌∷◌, ◌++◌, map, Option, Some, None, ℤ, ◌+ℤ◌, ◌-ℤ◌, ◌==◌, int_le, if◌then◌else◌}
 use Rattle.std.specs.List.{filter_map, fold, enumerate_from, list_any}
 use Rattle.std.specs.Option.{option_map, option_map_or}
 use Rattle.std.specs.declared.cmp.Ordering.{Ordering}
@@ -13,6 +13,7 @@ use Rattle.cat004_write.specs.declared.event.Event.{Event}
 use Rattle.replay_cli.specs.declared.cycle.Hit.{Hit}
 use Rattle.replay_cli.specs.declared.cycle.Mover.{Mover}
 use Rattle.replay_cli.specs.declared.site.Site.{Site}
+use Rattle.replay_cli.specs.declared.table.Row.{Row}
 use Rattle.replay_cli.specs.Motions.{motion_at}
 use Rattle.replay_cli.specs.Stca.{stca_hit}
 
@@ -20,9 +21,9 @@ use Rattle.replay_cli.specs.Stca.{stca_hit}
 abbrev pub key_cmp : TrackKey → TrackKey → Ordering
 key_cmp a b = ordering_then (nat_cmp a.sac b.sac) (ordering_then (nat_cmp a.sic b.sic) (nat_cmp a.number b.number))
 
--- the table: each key with its track, in key order
-abbrev pub table : List Track → List (TrackKey × Track)
-table tracks = fold (λ rows track. insert_entry key_cmp rows track.key track) [] tracks
+-- the table: each key with its row, in key order
+abbrev pub table : List Row → List (TrackKey × Row)
+table rows = fold (λ entries row. insert_entry key_cmp entries row.track.key row) [] rows
 
 -- when cycle 0 ends and its table is taken
 abbrev pub cycle_time : Site → ℤ
@@ -32,19 +33,23 @@ cycle_time site = site.start +ℤ site.period
 abbrev pub is_left_out : Site → Option ℕ → Bool
 is_left_out site code = option_map_or (λ c. list_any (λ d. d == c) site.codes) code false
 
+-- a row of the cycle: its track hasn't ended, and was told not longer ago than the site's timeout
+abbrev pub is_recent : Site → Row → Bool
+is_recent site row = not row.track.ended && int_le (cycle_time site -ℤ row.at) site.timeout
+
 -- a row that the nets look at: its set enables the net, it isn't tentative and isn't simulated, and its code isn't left out
 abbrev pub is_eligible : Site → Track → Bool
 is_eligible site track = site.set.stca && not track.tentative && not track.simulated && not (is_left_out site track.code)
 
 -- the eligible rows with a level, each with its motion at the cycle's time
-abbrev pub mover_of : Site → TrackKey × Track → Option Mover
-mover_of site row =
-    if is_eligible site row.1
-    then option_map (λ motion. record { key = row.0; motion = motion }) (motion_at row.1 (pos row.1.time) (cycle_time site))
+abbrev pub mover_of : Site → TrackKey × Row → Option Mover
+mover_of site entry =
+    if is_recent site entry.1 && is_eligible site entry.1.track
+    then option_map (λ motion. record { key = entry.0; motion = motion }) (motion_at entry.1.track entry.1.at (cycle_time site))
     else None
 
-abbrev pub movers : Site → List (TrackKey × Track) → List Mover
-movers site rows = filter_map (mover_of site) rows
+abbrev pub movers : Site → List (TrackKey × Row) → List Mover
+movers site entries = filter_map (mover_of site) entries
 
 -- the hit of a pair, the one with the lower key first
 abbrev pub hit_of : Site → Mover → Mover → Option Hit

@@ -1,24 +1,24 @@
 -- What the code relies on of a site and of the rows of a table (the ranges are this project's profile).
 use Rattle.std.specs.Prelude.{◌≤◌, pos, ◌≤ℤ◌, ◌<ℤ◌, ◌+ℤ◌, unsigned_abs}
-use Rattle.cat062_read.specs.declared.track.Track.{Track}
 use Rattle.cat062_read.specs.Tracks.{IsInPlane, IsLevelled}
 use Rattle.replay_cli.specs.declared.site.Site.{Site}
+use Rattle.replay_cli.specs.declared.table.Row.{Row}
 use Rattle.replay_cli.specs.Cycle.{cycle_time}
 use Rattle.replay_cli.specs.Stca.{IsSet}
 
--- a site's times and correction, in the ranges that a site may give; cycle 0 ends within the day
+-- a site's times and correction, in the ranges that a site may give
 pub record IsSite (site : Site) : Type 0 where
   pub start_low : pos 0 ≤ℤ site.start
   pub start_high : site.start <ℤ pos 11059200
   pub period_low : pos 128 ≤ℤ site.period
   pub period_high : site.period ≤ℤ pos 7680
-  pub day : (site.start +ℤ site.period) ≤ℤ pos 11059200
+  pub timeout : site.timeout ≤ℤ pos 7680
   pub qnh : unsigned_abs site.qnh ≤ 200
   pub set : IsSet site.set
 
--- a row of cycle 0's table: it was told in the cycle, at a place and a level within what a record can say
-pub record IsRow (site : Site) (track : Track) : Type 0 where
-  pub begun : site.start ≤ℤ pos track.time
-  pub not_over : pos track.time <ℤ cycle_time site
-  pub place : IsInPlane track.x track.y
-  pub level : IsLevelled track
+-- a row of cycle 0's table: it was told before the cycle's end, at a place and a level within what a record can say
+pub record IsRow (site : Site) (row : Row) : Type 0 where
+  pub long_ago : pos 0 ≤ℤ (row.at +ℤ pos 11059200)
+  pub not_over : row.at <ℤ cycle_time site
+  pub place : IsInPlane row.track.x row.track.y
+  pub level : IsLevelled row.track

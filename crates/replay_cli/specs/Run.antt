@@ -1,5 +1,5 @@
 -- What a run was asked for, what it was to read, and what it wrote (this project's profile).
-use Rattle.std.specs.Prelude.{◌≡◌, ℕ, List, [], ◌∷◌, take, codes, Option, Some, None, IfSome, String, if◌then◌else◌}
+use Rattle.std.specs.Prelude.{◌≡◌, ◌⊎◌, ℕ, true, false, List, [], ◌∷◌, take, codes, Option, Some, None, IfSome, String, if◌then◌else◌}
 use Rattle.std.specs.Option.{option_map, option_and_then}
 use Rattle.std.specs.Str.{bytes_eq}
 use Rattle.std.specs.String.{string_bytes}
@@ -7,7 +7,8 @@ use Rattle.std.specs.declared.alloc.Global.{Global}
 use Rattle.std.specs.Io.KnownBytes.{Appends}
 use Rattle.outside_io.specs.Bytes.{AppendsPrefix}
 use Rattle.outside_io.specs.Names.{bytes_of, Lacks}
-use Rattle.replay_cli.specs.Form.{feed_room, IsBuilt}
+use Rattle.replay_cli.specs.Input.{feed_room, told}
+use Rattle.replay_cli.specs.Reference.{FeedIsBuilt}
 use Rattle.replay_cli.specs.declared.site.Site.{Site}
 
 -- the name of the feed in the words `replay NAME`; no other words have one
@@ -27,12 +28,13 @@ told_feed files words = option_map feed_of (option_and_then (λ name. option_and
 abbrev pub LacksFeed : Option (List (List ℕ × List ℕ)) → List (String Global) → Type 0
 LacksFeed files words = IfSome (feed_name words) (Lacks files)
 
--- the alert bytes of the feed were written: all of them at status 0, and a prefix of them at any other
+-- the alert bytes of the feed were written: all of them where the work was done, at 0 and at 7, and a prefix of them at any other status
 abbrev pub WritesAlerts : ℕ → Option (List ℕ) → Option (List ℕ) → List ℕ → Type 0
-WritesAlerts status old new alerts = AppendsPrefix old new alerts × (status ≡ 0 → Appends old new alerts)
+WritesAlerts status old new alerts = AppendsPrefix old new alerts × ((status ≡ 0) ⊎ (status ≡ 7) → Appends old new alerts)
 
--- status 3 is for a feed that isn't built, and what is written is the alerts of a built one
+-- what a status tells of the feed: 3 that it isn't built; 0, 5 and 7 that it is; 0 that it is accepted whole, and 7 that it isn't
 pub record TellsForm (site : Site) (status : ℕ) (feed : List ℕ) : Type 0 where
-  pub refused : status ≡ 3 → IsBuilt site feed → ⊥
-  pub done : status ≡ 0 → IsBuilt site feed
-  pub cut_off : status ≡ 5 → IsBuilt site feed
+  pub refused : status ≡ 3 → FeedIsBuilt site feed → ⊥
+  pub done : status ≡ 0 → FeedIsBuilt site feed × ((told feed).accepted ≡ true)
+  pub done_in_part : status ≡ 7 → FeedIsBuilt site feed × ((told feed).accepted ≡ false)
+  pub cut_off : status ≡ 5 → FeedIsBuilt site feed

@@ -4,7 +4,7 @@ ghost use Rattle.std.specs.List.{filter_map, AllByRecursion, enumerate_from};
 ghost use Rattle.cat004_write.specs.Messages.{FitsOctets};
 ghost use Rattle.replay_cli.specs.Stca.{IsSet};
 ghost use Rattle.replay_cli.specs.Motions.{InRange};
-ghost use Rattle.replay_cli.specs.Cycle.{cycle_time, events, hit_of, hits as hits_of_movers, first_event as first_event_of, is_eligible as eligible, mover_of, movers as movers_of_rows};
+ghost use Rattle.replay_cli.specs.Cycle.{cycle_time, events, hit_of, hits as hits_of_movers, first_event as first_event_of, is_eligible as eligible, is_recent as recent, mover_of, movers as movers_of_rows};
 ghost use Rattle.cat062_read.specs.Tracks.{IsInPlane, IsLevelled};
 ghost use Rattle.cat004_write.specs.Blocks.{pack};
 ghost use Rattle.replay_cli.specs.Reference.{messages};
@@ -14,6 +14,7 @@ ghost use Rattle.std.specs.Prelude.{ℤ, ◌-ℤ◌, ◌≤ℤ◌};
 use crate::motion::{Motion, motion_at};
 use crate::site::Site;
 use crate::stca::examine;
+use crate::table::Row;
 use cat004_write::{Event, HitData, Net, NoMemory, Packer, Status, Subject, write_event};
 use cat062_read::{Track, TrackKey};
 use std::alloc::Global;
@@ -54,17 +55,26 @@ fn end_of_cycle(site: &Site) -> i64
     site.start + site.period
 }
 
-/// The row's mover, where the nets look at the row and it has a level.
-fn eligible_mover(site: &Site, key: TrackKey, track: &Track) -> Option<Mover>
+/// The row's track hasn't ended, and was told not longer ago than the site's timeout.
+fn is_recent(site: &Site, row: &Row) -> bool
     requires site { IsSite site.now }
-    requires row { IsRow site.now track.now }
-    ensures mover { result ≡ mover_of site.now (key, track.now) }
+    requires row { IsRow site.now row.now }
+    ensures { result ≡ recent site.now row.now }
+{
+    !row.track.ended && end_of_cycle(site) - row.at <= site.timeout
+}
+
+/// The row's mover, where the nets look at the row and it has a level.
+fn eligible_mover(site: &Site, key: TrackKey, row: &Row) -> Option<Mover>
+    requires site { IsSite site.now }
+    requires row { IsRow site.now row.now }
+    ensures mover { result ≡ mover_of site.now (key, row.now) }
     ensures range { IfSome result (λ m. InRange m.motion) }
 {
-    if !is_eligible(site, track) {
+    if !(is_recent(site, row) && is_eligible(site, &row.track)) {
         return None;
     }
-    let motion = motion_at(track, i64::from(track.time), end_of_cycle(site))?;
+    let motion = motion_at(&row.track, row.at, end_of_cycle(site))?;
     Some(Mover { key, motion })
 }
 
@@ -90,7 +100,7 @@ fn pair_hit(site: &Site, a: &Mover, b: &Mover) -> Option<Hit>
 pub fn movers(
     alloc: Global,
     site: &Site,
-    rows: &BTreeMap<TrackKey, Track>,
+    rows: &BTreeMap<TrackKey, Row>,
 ) -> Result<Vec<Mover>, NoMemory>
     requires site { IsSite site.now }
     requires rows { AllByRecursion (λ row. IsRow site.now row.1) rows.now.entries }
@@ -98,8 +108,8 @@ pub fn movers(
     ensures range { IfOk result (λ v. AllByRecursion (λ m. InRange m.motion) v.items) }
 {
     let mut movers = Vec::new(alloc);
-    for (key, track) in rows {
-        if let Some(mover) = eligible_mover(site, *key, track) {
+    for (key, row) in rows {
+        if let Some(mover) = eligible_mover(site, *key, row) {
             movers.push(mover)?;
         }
     }

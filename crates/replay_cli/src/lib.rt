@@ -2,16 +2,19 @@
 #![tactic(auto)]
 
 mod alerts;
+mod clock;
 pub mod cycle;
-mod feed;
 mod form;
+mod input;
 mod line;
 pub mod motion;
 pub mod site;
 mod stca;
-#[cfg(test)]
-mod tests;
+pub mod table;
 mod top;
 
-pub use form::first_unbuilt;
+pub use form::unbuilt;
 pub use top::replay_top;
+
+#[cfg(test)]
+mod tests;

@@ -6,6 +6,12 @@ ghost use Rattle.replay_cli.specs.Motions.{InRange, motion_at as told, motion_of
 use crate::line::along;
 use cat062_read::Track;
 
+/// Half a metre in length units of 1/512 m.
+pub const HALF_METRE: i64 = 256;
+
+/// 25 ft in height units.
+pub const TWENTY_FIVE_FEET: i64 = 30_720;
+
 /// A position in 1/512 m and a velocity in 1/512 m per tick of 1/128 s; a level and an altitude in
 /// 1/30,720 of 25 ft and their rate in these per tick. All hold at tick 0.
 #[derive(Clone, Copy, Debug, PartialEq, Eq)]
@@ -45,12 +51,12 @@ fn moved(track: &Track, age: i64, level: i32, altitude: i32) -> Motion
     ensures range { InRange result }
 {
     Motion {
-        x: moved_along(256, track.x, track.vx, age),
-        y: moved_along(256, track.y, track.vy, age),
+        x: moved_along(HALF_METRE, track.x, track.vx, age),
+        y: moved_along(HALF_METRE, track.y, track.vy, age),
         vx: i64::from(track.vx),
         vy: i64::from(track.vy),
-        z: moved_along(30_720, level, track.rate, age),
-        alt: moved_along(30_720, altitude, track.rate, age),
+        z: moved_along(TWENTY_FIVE_FEET, level, track.rate, age),
+        alt: moved_along(TWENTY_FIVE_FEET, altitude, track.rate, age),
         vz: i64::from(track.rate),
     }
 }

@@ -24,6 +24,8 @@ pub struct Site {
     /// When cycle 0 begins, and how long each cycle lasts, in ticks of 1/128 s.
     pub start: i64,
     pub period: i64,
+    /// How long ago a row may have been told, in ticks of 1/128 s.
+    pub timeout: i64,
     /// The QNH correction in 25 ft.
     pub qnh: i32,
     /// The Mode 3/A codes that aren't eligible for a net.
@@ -37,6 +39,7 @@ pub const SITE: Site = Site {
     sic: 100,
     start: 4_608_000,
     period: 512,
+    timeout: 2048,
     qnh: 0,
     codes: [0o7000],
     set: Set {

@@ -6,7 +6,7 @@ ghost use Rattle.cat004_write.specs.Messages.{FitsOctets};
 ghost use Rattle.replay_cli.specs.Motions.{InRange, apart, dx_at, dy_at, dz_at, squared_at as squared};
 
 use crate::line::{along, square};
-use crate::motion::Motion;
+use crate::motion::{HALF_METRE, Motion, TWENTY_FIVE_FEET};
 use crate::site::Set;
 use cat004_write::HitData;
 use tick_sets::{isqrt, least_tick};
@@ -166,7 +166,7 @@ fn horizontal(a: &Motion, b: &Motion, tick: i64) -> u128
     requires begun { pos 0 ≤ℤ tick }
     ensures { result ≡ horizontal_of a.now b.now (unsigned_abs tick) }
 {
-    isqrt(squared_at(a, b, tick)) / 256
+    isqrt(squared_at(a, b, tick)) / HALF_METRE as u128
 }
 
 /// The vertical separation at a tick in whole 25 ft, at most 65,535.
@@ -177,7 +177,7 @@ fn vertical(a: &Motion, b: &Motion, tick: i64) -> u16
     requires begun { pos 0 ≤ℤ tick }
     ensures { result ≡ min (vertical_of a.now b.now (unsigned_abs tick)) 65535 }
 {
-    let apart = apart_at(a.z, a.vz, b.z, b.vz, tick).unsigned_abs() / 30_720;
+    let apart = apart_at(a.z, a.vz, b.z, b.vz, tick).unsigned_abs() / TWENTY_FIVE_FEET as u64;
     apart.min(65_535) as u16
 }
 

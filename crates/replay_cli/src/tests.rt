@@ -1,7 +1,10 @@
 //! The top call over a world in memory: whole output and status.
 ghost use Rattle.std.specs.Prelude.{◌≡◌, ◌<◌, ◌≤◌, length};
 
-use crate::{first_unbuilt, replay_top};
+use crate::input::read_feed;
+use crate::{replay_top, unbuilt};
+use asterix_blocks::{End, frame};
+use cat062_read::{Raw062, read_block};
 use outside_io::memory::{MemFile, MemSink, MemSource, MemWorld};
 use outside_io::{Sinks, Steps};
 use std::alloc::{AllocError, Global};
@@ -27,6 +30,78 @@ const ALERT: [u8; 42] = [
     0x01, 0xfc, 0x00, 0x00, 0x00, 0x00, 0x04, 0x00, 0x00, 0x1f, 0x40, 0x00, 0x00, 0x00, 0x08, 0x00,
     0x08, 0x01, 0x02, 0x07, 0x07, 0x19, 0x0a, 0x19, 0x0a, 0x03,
 ];
+
+/// The first track as a usual tracker tells it: items 015, 105, 060, 245, 380, 290, 200, 295 and 135 besides,
+/// and 080 with its extensions.
+const USUAL: [u8; 64] = [
+    0x3e, 0x00, 0x40, 0xbf, 0x7f, 0xec, 0x19, 0x0a, 0x01, 0x46, 0x51, 0x00, 0x00, 0x89, 0x54, 0x40,
+    0x00, 0x35, 0x4a, 0x1c, 0x00, 0x00, 0x00, 0x00, 0x00, 0x00, 0x03, 0xe8, 0x00, 0x00, 0x02, 0x9c,
+    0x00, 0x4d, 0x21, 0x31, 0xcb, 0x38, 0x20, 0xc0, 0x40, 0x06, 0xa1, 0x4d, 0x21, 0x31, 0xcb, 0x38,
+    0x20, 0x01, 0x01, 0x01, 0x00, 0x10, 0x02, 0x00, 0x80, 0x02, 0x05, 0x28, 0x05, 0x28, 0x00, 0x00,
+];
+
+/// A record of items 010, 210, 380, 390, 270, 300, 110, 120, 510, 500, 340, RE and SP: fixed, extended by parts
+/// of one octet and of three, explicit, compound with repeated subfields. It has no time, so it isn't usable.
+const EVERY_FORM: [u8; 65] = [
+    0x81, 0x91, 0x03, 0xff, 0x06, // FSPEC
+    0x19, 0x0a, 0x01, 0x02, // 010, 210
+    0x01, 0x41, 0x01, 0x10, 0x01, 0x10, 0x11, 0x12, 0x13, 0x14, 0x15, 0x16, 0x17, 0x18, 0x19, 0x1a,
+    0x1b, 0x1c, 0x1d, 0x1e, 0x00, // 380: one group of 15 octets, and no group of 8
+    0x01, 0x08, 0x02, 0x20, 0x21, 0x22, 0x23, 0x24, 0x25, 0x26, 0x27, // 390: two groups of 4
+    0x03, 0x04, 0x05, // 270 of two parts, 300
+    0x82, 0x11, 0x17, 0x12, 0x34, // 110, 120
+    0x01, 0x02, 0x03, 0x04, 0x05, 0x06, // 510 of two parts
+    0x01, 0x80, 0x31, 0x80, 0x32, 0x33, // 500, 340
+    0x03, 0xaa, 0xbb, 0x01, // RE, SP
+];
+
+/// Ten tracks as a tracker sends them, in three blocks with one of another category between, and the alerts of
+/// the three that are looked at.
+const TRACKER: [u8; 252] = [
+    0x3e, 0x00, 0x69, 0x9f, 0x5f, 0xac, 0x19, 0x0a, 0x46, 0x50, 0x80, 0x00, 0x88, 0x88, 0x88, 0x00,
+    0x20, 0x00, 0x00, 0xff, 0xf6, 0xa0, 0x00, 0x00, 0x00, 0x03, 0x20, 0x00, 0x00, 0x02, 0x9c, 0xc1,
+    0x20, 0x40, 0x0f, 0x3a, 0x4c, 0xe1, 0x54, 0xc6, 0x08, 0x20, 0x20, 0x00, 0x01, 0x01, 0x09, 0x03,
+    0x00, 0x30, 0x04, 0x04, 0x00, 0x05, 0x28, 0x05, 0x28, 0xff, 0xb0, 0x97, 0x0d, 0x08, 0x19, 0x0a,
+    0x46, 0x51, 0x00, 0x00, 0x11, 0x30, 0x00, 0x0e, 0x10, 0xfc, 0xe0, 0x00, 0x00, 0x01, 0x02, 0x00,
+    0x05, 0x20, 0x97, 0x0d, 0x20, 0x19, 0x0a, 0x46, 0x51, 0x00, 0x00, 0x00, 0x00, 0x00, 0x00, 0x00,
+    0x03, 0x20, 0x00, 0x00, 0x01, 0x03, 0x02, 0x05, 0x28, 0x41, 0x00, 0x0c, 0xf4, 0x19, 0x0a, 0x01,
+    0x01, 0x46, 0x51, 0x00, 0x00, 0x3e, 0x00, 0x49, 0x97, 0x0d, 0x08, 0x19, 0x0a, 0x46, 0x4e, 0x00,
+    0x00, 0x1a, 0x90, 0x00, 0x05, 0x78, 0xfc, 0xe0, 0x00, 0x00, 0x01, 0x04, 0x00, 0x85, 0x24, 0x97,
+    0x0d, 0x20, 0x19, 0x0a, 0x46, 0x51, 0x00, 0x00, 0x00, 0x00, 0x00, 0x00, 0x00, 0x03, 0x20, 0x00,
+    0x00, 0x01, 0x05, 0x01, 0x40, 0x05, 0x28, 0x97, 0x0d, 0x20, 0x19, 0x0a, 0x46, 0x49, 0xff, 0x00,
+    0x00, 0x00, 0x00, 0x00, 0x00, 0x03, 0x20, 0x00, 0x00, 0x01, 0x06, 0x00, 0x05, 0x28, 0x3e, 0x00,
+    0x3e, 0x97, 0x4d, 0x20, 0x19, 0x0a, 0x46, 0x51, 0x00, 0x00, 0x00, 0x00, 0x00, 0x00, 0x00, 0x03,
+    0x20, 0x00, 0x00, 0x0e, 0x00, 0x01, 0x07, 0x00, 0x05, 0x28, 0x97, 0x0d, 0x20, 0x19, 0x0a, 0x46,
+    0x51, 0x00, 0x00, 0x00, 0x00, 0x00, 0x00, 0x00, 0x03, 0x20, 0x00, 0x00, 0x01, 0x08, 0x01, 0x80,
+    0x05, 0x28, 0x91, 0x0c, 0x19, 0x0a, 0x46, 0x51, 0x00, 0x01, 0x09, 0x00,
+];
+
+const TRACKER_ALERTS: [u8; 120] = [
+    0x04, 0x00, 0x78, 0xdd, 0x91, 0x42, 0x19, 0x64, 0x07, 0x46, 0x52, 0x00, 0x00, 0x00, 0x02, 0x01,
+    0x01, 0xfc, 0x00, 0x00, 0x00, 0x00, 0x03, 0x00, 0x00, 0x17, 0x70, 0x0e, 0x10, 0x00, 0x07, 0x00,
+    0x05, 0x01, 0x02, 0x07, 0x07, 0x19, 0x0a, 0x19, 0x0a, 0x03, 0xdd, 0x91, 0x42, 0x19, 0x64, 0x07,
+    0x46, 0x52, 0x00, 0x00, 0x01, 0x02, 0x01, 0x01, 0xfc, 0x00, 0x00, 0x00, 0x00, 0x03, 0x00, 0x00,
+    0x13, 0x88, 0x05, 0x78, 0x00, 0x03, 0x00, 0x01, 0x01, 0x04, 0x07, 0x07, 0x19, 0x0a, 0x19, 0x0a,
+    0x03, 0xdd, 0x91, 0x42, 0x19, 0x64, 0x07, 0x46, 0x52, 0x00, 0x00, 0x02, 0x02, 0x01, 0x02, 0xfc,
+    0x00, 0x00, 0x00, 0x00, 0x00, 0x00, 0x00, 0x08, 0x98, 0x08, 0x98, 0x00, 0x04, 0x00, 0x04, 0x01,
+    0x04, 0x07, 0x07, 0x19, 0x0a, 0x19, 0x0a, 0x03,
+];
+
+/// The alerts of three tracks, the third of which flies with the first.
+const THREE_ALERTS: [u8; 120] = [
+    0x04, 0x00, 0x78, 0xdd, 0x91, 0x42, 0x19, 0x64, 0x07, 0x46, 0x52, 0x00, 0x00, 0x00, 0x02, 0x01,
+    0x01, 0xfc, 0x00, 0x00, 0x00, 0x00, 0x04, 0x00, 0x00, 0x1f, 0x40, 0x00, 0x00, 0x00, 0x08, 0x00,
+    0x08, 0x01, 0x02, 0x07, 0x07, 0x19, 0x0a, 0x19, 0x0a, 0x03, 0xdd, 0x91, 0x42, 0x19, 0x64, 0x07,
+    0x46, 0x52, 0x00, 0x00, 0x01, 0x02, 0x01, 0x01, 0xfc, 0x00, 0x00, 0x00, 0x00, 0x00, 0x00, 0x00,
+    0x00, 0x00, 0x00, 0x00, 0x00, 0x00, 0x00, 0x00, 0x01, 0x03, 0x07, 0x07, 0x19, 0x0a, 0x19, 0x0a,
+    0x03, 0xdd, 0x91, 0x42, 0x19, 0x64, 0x07, 0x46, 0x52, 0x00, 0x00, 0x02, 0x02, 0x01, 0x02, 0xfc,
+    0x00, 0x00, 0x00, 0x00, 0x04, 0x00, 0x00, 0x1f, 0x40, 0x00, 0x00, 0x00, 0x08, 0x00, 0x08, 0x01,
+    0x03, 0x07, 0x07, 0x19, 0x0a, 0x19, 0x0a, 0x03,
+];
+
+/// Blocks of one feed, and where each ends: the first track, one of another category, records of every form
+/// before the second track, and one that tells of other tracks.
+const ENDS: [usize; 4] = [64, 71, 165, 287];
 
 /// The outside of a run: a feed under the name `a.ast`, how it is cut, and how the sink takes the bytes.
 #[derive(Drop)]
@@ -58,24 +133,15 @@ impl Outside {
         for word in words {
             owned.push(String::from_str(alloc, word)?)?;
         }
-        let mut files = Vec::new(alloc);
-        files.push(MemFile {
-            name: String::from_str(alloc, "a.ast")?,
-            source: MemSource {
-                bytes: self.feed,
-                cuts: self.cuts,
-                fail: self.failing_reads,
-                at: 0,
-                calls: 0,
-                faults: 0,
-            },
-        })?;
-        let mut world = MemWorld {
-            files,
-            fail: self.failing_opens,
-            opens: 0,
+        let source = MemSource {
+            bytes: self.feed,
+            cuts: self.cuts,
+            fail: self.failing_reads,
+            at: 0,
+            calls: 0,
             faults: 0,
         };
+        let mut world = world_of(alloc, source, self.failing_opens)?;
         let mut sinks = Sinks {
             out: MemSink::new(alloc, 100_000, self.takes, self.failing_writes)?,
             report: MemSink::new(alloc, 100, Vec::new(alloc), Vec::new(alloc))?,
@@ -87,6 +153,21 @@ impl Outside {
             report: sinks.report.calls.max(sinks.report.taken.len() as u64),
         })
     }
+}
+
+/// A world that knows this source as `a.ast`.
+fn world_of(alloc: Global, source: MemSource, fail: Vec<u64>) -> Result<MemWorld, AllocError> {
+    let mut files = Vec::new(alloc);
+    files.push(MemFile {
+        name: String::from_str(alloc, "a.ast")?,
+        source,
+    })?;
+    Ok(MemWorld {
+        files,
+        fail,
+        opens: 0,
+        faults: 0,
+    })
 }
 
 /// A status, the bytes on `out`, and how much was asked of `report`.
@@ -110,6 +191,64 @@ fn top<L: Ledger>(
 {
     let mut steps = Steps::<L>::new(blank);
     replay_top(alloc, words, world, sinks, &mut steps)
+}
+
+/// A block of category 062 of these records.
+fn block_of(alloc: Global, records: &[&[u8]]) -> Result<Vec<u8>, AllocError> {
+    let mut length = 3u16;
+    for record in records {
+        length = length.saturating_add(record.len().min(1_000) as u16);
+    }
+    let [high, low] = length.to_be_bytes();
+    let mut block = Vec::new(alloc);
+    block.extend_from_slice(&[0x3e, high, low])?;
+    for record in records {
+        block.extend_from_slice(record)?;
+    }
+    Ok(block)
+}
+
+/// A feed of every form. Its only alert is that of the first two tracks: of the others one is tentative and
+/// one has ended.
+fn every_form(alloc: Global) -> Result<Vec<u8>, AllocError> {
+    let mut tentative = FIRST;
+    tentative[22] = 0x03;
+    tentative[23] = 0x02;
+    let ended = [
+        0x97, 0x0d, 0x24, 0x19, 0x0a, 0x46, 0x51, 0x00, 0x00, 0x00, 0x00, 0x00, 0x00, 0x00, 0x03,
+        0xe8, 0x00, 0x00, 0x01, 0x04, 0x01, 0x40, 0x05, 0x28, 0x00, 0x00,
+    ];
+    let mut feed = USUAL.to_vec(alloc)?;
+    feed.extend_from_slice(&[0x22, 0x00, 0x07, 0x19, 0x0a, 0x01, 0x02])?;
+    feed.append(&mut block_of(alloc, &[&EVERY_FORM, &[0x00], &SECOND[3..]])?)?;
+    let others: [&[u8]; 4] = [&tentative[3..], &[0x01, 0x00, 0x00], &EVERY_FORM, &ended];
+    feed.append(&mut block_of(alloc, &others)?)?;
+    Ok(feed)
+}
+
+/// What a feed tells, from whole lists: its records, and whether nothing is refused and it ends clean.
+fn plain(alloc: Global, feed: &[u8]) -> Result<(Vec<Raw062>, bool), AllocError> {
+    let mut records = Vec::new(alloc);
+    if feed.len() > 65_535 {
+        return Ok((records, false));
+    }
+    let framed = frame(alloc, feed)?;
+    let mut accepted = framed.end == End::Clean;
+    for block in &framed.blocks {
+        let body = block.body.as_slice();
+        if block.category == 62 && body.len() <= 65_535 && block.offset <= 65_535 {
+            let read = read_block(alloc, body, block.offset)?;
+            records.extend(read.records)?;
+            accepted = accepted && read.refused.is_none();
+        }
+    }
+    Ok((records, accepted))
+}
+
+/// Whether the records of a feed aren't built for the cycle of the built-in site.
+fn is_unbuilt(alloc: Global, feed: &[u8]) -> Result<bool, AllocError> {
+    let (records, _) = plain(alloc, feed)?;
+    Ok(unbuilt(&records, 4_608_000, 512))
 }
 
 /// One block after the other.
@@ -148,7 +287,8 @@ fn two_tracks_head_on(rt: HostRuntime) -> Result<(), Fail> {
     );
     expect(&rt, &replayed(alloc, &[])?, 0, &[], "an empty feed");
     expect(&rt, &replayed(alloc, &FIRST)?, 0, &[], "one track");
-    assert_eq!(rt; first_unbuilt(&feed), None);
+    assert!(rt; !is_unbuilt(alloc, &feed)?);
+    assert!(rt; !is_unbuilt(alloc, &[])?);
     for size in 1..58u32 {
         let mut outside = Outside::of(alloc, &feed)?;
         outside.cuts = vec![in alloc; size; 57]?;
@@ -188,22 +328,251 @@ fn want_of_memory(rt: HostRuntime) -> Result<(), Fail> {
     Ok(())
 }
 
+/// Records of several shapes in one feed, and a feed in which a record is refused and a block is cut off.
+#[test]
+fn several_records_in_a_block(rt: HostRuntime) -> Result<(), Fail> {
+    let alloc = rt.alloc();
+    expect(
+        &rt,
+        &replayed(alloc, &TRACKER)?,
+        0,
+        &TRACKER_ALERTS,
+        "a tracker's feed",
+    );
+    let mut third = FIRST;
+    third[22] = 0x03;
+    let mut spare = FIRST;
+    spare[3] = 0xd7;
+    spare[22] = 0x04;
+    let mut fifth = FIRST;
+    fifth[22] = 0x05;
+    let mut feed = FIRST.to_vec(alloc)?;
+    feed.append(&mut block_of(alloc, &[&third[3..], &spare[3..], &fifth[3..]])?)?;
+    feed.extend_from_slice(&SECOND)?;
+    feed.extend_from_slice(&FIRST[..10])?;
+    expect(
+        &rt,
+        &replayed(alloc, &feed)?,
+        7,
+        &THREE_ALERTS,
+        "a damaged feed",
+    );
+    Ok(())
+}
+
+/// What is refused or cut off is lost, and nothing else.
+#[test]
+fn damaged_feeds(rt: HostRuntime) -> Result<(), Fail> {
+    let alloc = rt.alloc();
+    // The second record of the first block names spare item 2.
+    let mut spare = FIRST;
+    spare[3] = 0xd7;
+    let mut refused = block_of(alloc, &[&FIRST[3..], &spare[3..]])?;
+    refused.extend_from_slice(&SECOND)?;
+    expect(
+        &rt,
+        &replayed(alloc, &refused)?,
+        7,
+        &ALERT,
+        "a record refused",
+    );
+    let mut lost = block_of(alloc, &[&spare[3..], &FIRST[3..]])?;
+    lost.extend_from_slice(&SECOND)?;
+    expect(
+        &rt,
+        &replayed(alloc, &lost)?,
+        7,
+        &[],
+        "the rest of a body is lost",
+    );
+    let feed = joined(alloc, &[FIRST, SECOND])?;
+    for (tail, status, what) in [
+        ([0x3e, 0x00, 0x02].as_slice(), 7, "a bad length"),
+        (&[0x3e, 0x00, 0x03], 0, "a block without records"),
+        (&[0x22, 0x00, 0x03], 0, "another category"),
+        (&[0x3e, 0x00, 0x04], 7, "a block cut off"),
+        (&[0x3e], 7, "a header cut off"),
+    ] {
+        let mut longer = feed.as_slice().to_vec(alloc)?;
+        longer.extend_from_slice(tail)?;
+        expect(&rt, &replayed(alloc, &longer)?, status, &ALERT, what);
+        let mut shorter = tail.to_vec(alloc)?;
+        shorter.extend_from_slice(&feed)?;
+        let out: &[u8] = if status == 0 { &ALERT } else { &[] };
+        let mut outside = Outside::of(alloc, &shorter)?;
+        outside.cuts = vec![in alloc; 3; 20]?;
+        expect(
+            &rt,
+            &outside.run(alloc, &["replay", "a.ast"])?,
+            status,
+            out,
+            what,
+        );
+    }
+    expect(
+        &rt,
+        &replayed(alloc, &feed[..feed.len().min(38)])?,
+        7,
+        &[],
+        "the second block cut off",
+    );
+    expect(
+        &rt,
+        &replayed(alloc, &FIRST[..27])?,
+        7,
+        &[],
+        "a block less one octet",
+    );
+    Ok(())
+}
+
+/// The feed of every form in two pieces, cut at each place, and cut off at each place.
+#[test]
+fn every_split_and_every_end(rt: HostRuntime) -> Result<(), Fail> {
+    let alloc = rt.alloc();
+    let feed = every_form(alloc)?;
+    assert_eq!(rt; feed.len(), 287);
+    for place in 0..288usize {
+        let cut = &feed[..place.min(feed.len())];
+        let (records, accepted) = plain(alloc, cut)?;
+        let out: &[u8] = if place < 165 { &[] } else { &ALERT };
+        let is_whole = place == 0 || ENDS.contains(&place);
+        assert_eq!(rt; accepted, is_whole);
+        let status = if is_whole { 0 } else { 7 };
+        expect(&rt, &replayed(alloc, cut)?, status, out, "cut off");
+        let mut outside = Outside::of(alloc, &feed)?;
+        outside.cuts = vec![in alloc; place as u32]?;
+        expect(
+            &rt,
+            &outside.run(alloc, &["replay", "a.ast"])?,
+            0,
+            &ALERT,
+            "in two pieces",
+        );
+        let source = MemSource {
+            bytes: cut.to_vec(alloc)?,
+            cuts: vec![in alloc; place as u32 / 2]?,
+            fail: Vec::new(alloc),
+            at: 0,
+            calls: 0,
+            faults: 0,
+        };
+        let mut world = world_of(alloc, source, Vec::new(alloc))?;
+        let input = read_feed(alloc, &mut world, "a.ast").map_err(|_| AllocError)?;
+        assert!(rt; input.records.as_slice() == records.as_slice());
+        assert_eq!(rt; input.accepted, accepted);
+    }
+    Ok(())
+}
+
+/// The first track, told in other ways, beside the second one.
+#[test]
+fn rows_and_levels(rt: HostRuntime) -> Result<(), Fail> {
+    let alloc = rt.alloc();
+    let cases: [(&[u8], bool, &str); 8] = [
+        (&USUAL[3..], true, "a usual tracker's record"),
+        (
+            &[
+                0x97, 0x4d, 0x24, 0x19, 0x0a, 0x46, 0x51, 0x00, 0x00, 0x00, 0x00, 0x00, 0x00, 0x00,
+                0x03, 0xe8, 0x00, 0x00, 0x8d, 0xff, 0x01, 0x01, 0x00, 0x05, 0x28, 0x00, 0x00,
+            ],
+            true,
+            "a code that is eligible",
+        ),
+        (
+            &[
+                0x97, 0x4d, 0x24, 0x19, 0x0a, 0x46, 0x51, 0x00, 0x00, 0x00, 0x00, 0x00, 0x00, 0x00,
+                0x03, 0xe8, 0x00, 0x00, 0x8e, 0x00, 0x01, 0x01, 0x00, 0x05, 0x28, 0x00, 0x00,
+            ],
+            false,
+            "code 7000",
+        ),
+        (
+            &[
+                0x97, 0x0d, 0x24, 0x19, 0x0a, 0x46, 0x51, 0x00, 0x00, 0x00, 0x00, 0x00, 0x00, 0x00,
+                0x03, 0xe8, 0x00, 0x00, 0x01, 0x01, 0x01, 0x80, 0x05, 0x28, 0x00, 0x00,
+            ],
+            false,
+            "simulated",
+        ),
+        (
+            &[
+                0x97, 0x0d, 0x24, 0x19, 0x0a, 0x46, 0x51, 0x00, 0x00, 0x00, 0x00, 0x00, 0x00, 0x00,
+                0x03, 0xe8, 0x00, 0x00, 0x01, 0x01, 0x01, 0x40, 0x05, 0x28, 0x00, 0x00,
+            ],
+            false,
+            "ended",
+        ),
+        (
+            &[
+                0x97, 0x0d, 0x04, 0x19, 0x0a, 0x46, 0x51, 0x00, 0x00, 0x00, 0x00, 0x00, 0x00, 0x00,
+                0x03, 0xe8, 0x00, 0x00, 0x01, 0x01, 0x00, 0x00, 0x00,
+            ],
+            false,
+            "without a level",
+        ),
+        (
+            &[
+                0x97, 0x0d, 0x0c, 0x19, 0x0a, 0x46, 0x51, 0x00, 0x00, 0x00, 0x00, 0x00, 0x00, 0x00,
+                0x03, 0xe8, 0x00, 0x00, 0x01, 0x01, 0x00, 0x05, 0x28, 0x00, 0x00,
+            ],
+            true,
+            "the level from the barometric altitude",
+        ),
+        (
+            &[
+                0x97, 0x0d, 0x0c, 0x19, 0x0a, 0x46, 0x51, 0x00, 0x00, 0x00, 0x00, 0x00, 0x00, 0x00,
+                0x03, 0xe8, 0x00, 0x00, 0x01, 0x01, 0x00, 0x85, 0x28, 0x00, 0x00,
+            ],
+            true,
+            "the level from the corrected one",
+        ),
+    ];
+    for (record, is_hit, what) in cases {
+        let feed = block_of(alloc, &[record, &SECOND[3..]])?;
+        let out: &[u8] = if is_hit { &ALERT } else { &[] };
+        expect(&rt, &replayed(alloc, &feed)?, 0, out, what);
+    }
+    Ok(())
+}
+
+/// When tracks may be told: the cycle's end, the timeout, and the time half a day from the site's start.
+#[test]
+fn times_of_a_cycle(rt: HostRuntime) -> Result<(), Fail> {
+    let alloc = rt.alloc();
+    for (time, status, is_hit) in [
+        (4_608_511, 0, true),
+        (4_608_512, 3, false),
+        (4_606_464, 0, true),
+        (4_606_463, 0, false),
+        (10_137_599, 3, false),
+        (10_137_600, 0, false),
+        (15_667_711, 0, true),
+    ] {
+        let near = Told {
+            time,
+            ..Told::at(1, 0)
+        };
+        let feed = joined(alloc, &[near.block(), Told::at(2, 0).block()])?;
+        let ran = replayed(alloc, &feed)?;
+        assert_eq!(rt; ran.status, status, "status at {time}");
+        assert_eq!(rt;
+            ran.out.len(),
+            if is_hit { 42 } else { 0 },
+            "octets at {time}"
+        );
+        assert_eq!(rt; is_unbuilt(alloc, &feed)?, status == 3, "form at {time}");
+    }
+    Ok(())
+}
+
 #[test]
 fn refusals_and_failures(rt: HostRuntime) -> Result<(), Fail> {
     let alloc = rt.alloc();
     let feed = joined(alloc, &[FIRST, SECOND])?;
     let twice = joined(alloc, &[FIRST, FIRST])?;
     expect(&rt, &replayed(alloc, &twice)?, 3, &[], "one track twice");
-    assert_eq!(rt; first_unbuilt(&twice), Some(28));
-    let cut = &FIRST[..27];
-    expect(
-        &rt,
-        &replayed(alloc, cut)?,
-        3,
-        &[],
-        "a block cut by one octet",
-    );
-    assert_eq!(rt; first_unbuilt(cut), Some(0));
+    assert!(rt; is_unbuilt(alloc, &twice)?);
     // Reads of 10 octets, the third of which fails.
     let mut outside = Outside::of(alloc, &feed)?;
     outside.cuts = vec![in alloc; 10; 3]?;

@@ -23,4 +23,4 @@ apart c =
 pub returns : goal.returns
 returns c =
     c.min.ensures
-    ∙ ap (λ n. min (n / 30720) 65535) (c.unsigned_abs-apart.ensures.value ∙ ap unsigned_abs (apart c))
+    ∙ ap (λ n. min (n / 30720) 65535) (c.unsigned_abs.ensures.value ∙ ap unsigned_abs (apart c))

@@ -4,7 +4,7 @@ use Rattle.replay_cli.proofs.Ends.{done_headline, done_form, stopped_headline, s
 use Rattle.replay_cli.proofs.top.replay_top.Goals as goal
 
 pub returns-in-Ok-clause-headline : goal.returns-in-Ok-clause-headline
-returns-in-Ok-clause-headline g c = done_headline (record {
+returns-in-Ok-clause-headline g c = rw c.done.ensures.status (done_headline c.in-Ok.accepted (record {
   files = g.W.World.files c.args.world.now;
   name = feed_name c.args.words.now;
   feed = told_feed (g.W.World.files c.args.world.now) c.args.words.now;
@@ -14,10 +14,10 @@ returns-in-Ok-clause-headline g c = done_headline (record {
   out_after = g.K.Sink.faults c.replay.new.out;
   taken_before = g.K.Sink.taken c.args.sinks.now.out;
   taken_after = g.K.Sink.taken c.replay.new.out;
-}) c.in-Ok.ensures.done
+}) c.in-Ok.ensures.done)
 
 pub returns-in-Ok-clause-form : goal.returns-in-Ok-clause-form
-returns-in-Ok-clause-form g c = done_form (record {
+returns-in-Ok-clause-form g c = rw c.done.ensures.status (done_form c.in-Ok.accepted (record {
   files = g.W.World.files c.args.world.now;
   name = feed_name c.args.words.now;
   feed = told_feed (g.W.World.files c.args.world.now) c.args.words.now;
@@ -27,7 +27,7 @@ returns-in-Ok-clause-form g c = done_form (record {
   out_after = g.K.Sink.faults c.replay.new.out;
   taken_before = g.K.Sink.taken c.args.sinks.now.out;
   taken_after = g.K.Sink.taken c.replay.new.out;
-}) c.in-Ok.ensures.done
+}) c.in-Ok.ensures.done)
 
 pub returns-in-Err-clause-headline : goal.returns-in-Err-clause-headline
 returns-in-Err-clause-headline g c = rw c.status.ensures (stopped_headline c.in-Err.stop (record {

@@ -1,0 +1,115 @@
+-- The table and the form of one more track.
+use Rattle.std.proofs.Common.{◌≡◌, ◌≢◌, ℤ, pos, ◌+ℤ◌, ◌≤ℤ◌, ◌<ℤ◌, subst, arith, List, [], ◌∷◌, ◌++◌, refl, ap, sym, ◌∙◌}
+use Rattle.std.specs.List.{AllByRecursion}
+use Rattle.std.specs.declared.cmp.Ordering.{Ordering}
+use Rattle.std.specs.declared.cmp.Ordering.TheVariants.{Less, Equal, Greater}
+use Rattle.std.specs.Ordering.{match_ordering}
+use Rattle.std.specs.BTreeMap.{insert_entry}
+use Rattle.std.proofs.lemmas.Int.{ints}
+use Rattle.std.specs.Int.{int_max}
+use Rattle.std.proofs.lemmas.List.{map-append}
+use Rattle.std.proofs.lemmas.List.Sums.{fold_push}
+use Rattle.cat062_read.specs.declared.track.Track.{Track}
+use Rattle.cat062_read.specs.declared.track.TrackKey.{TrackKey}
+use Rattle.replay_cli.specs.Cycle.{key_cmp, table}
+use Rattle.replay_cli.specs.Form.{AreDistinct, AreOthers, IsBuilt, keys_of}
+use Rattle.replay_cli.proofs.Cycles.{greater_from, greater_below}
+use Rattle.replay_cli.specs.Stamps.{at_near, row_at, later, latest_from, rows_from}
+
+-- the times and the rows of one more track
+pub latest_more : (present : ℤ) (tracks : List Track) (track : Track) → latest_from present (tracks ++ track ∷ []) ≡ later (latest_from present tracks) track
+latest_more present tracks track = fold_push later present tracks track
+
+pub rows_more : (present : ℤ) (tracks : List Track) (track : Track) → rows_from present (tracks ++ track ∷ []) ≡ rows_from present tracks ++ row_at (latest_from present tracks) track ∷ []
+rows_more present [] track = refl
+rows_more present (t ∷ ts) track = ap (λ rows. row_at present t ∷ rows) (rows_more (later present t) ts track)
+
+pub table_more : (present : ℤ) (tracks : List Track) (track : Track) →
+    table (rows_from present (tracks ++ track ∷ [])) ≡ insert_entry key_cmp (table (rows_from present tracks)) track.key (row_at (latest_from present tracks) track)
+table_more present tracks track =
+    ap table (rows_more present tracks track)
+    ∙ fold_push (λ entries row. insert_entry key_cmp entries row.track.key row) [] (rows_from present tracks) (row_at (latest_from present tracks) track)
+
+-- all of a list, and of its front
+pub all_more : {X : Type 0} (P : X → Type 0) (xs : List X) (x : X) → AllByRecursion P xs → P x → AllByRecursion P (xs ++ x ∷ [])
+all_more P [] x all here = (here, tt)
+all_more P (y ∷ ys) x all here = (all.0, all_more P ys x all.1 here)
+
+pub all_front : {X : Type 0} (P : X → Type 0) (xs ys : List X) → AllByRecursion P (xs ++ ys) → AllByRecursion P xs
+all_front P [] ys all = tt
+all_front P (x ∷ xs) ys all = (all.0, all_front P xs ys all.1)
+
+pub all_at : {X : Type 0} (P : X → Type 0) (xs : List X) (y : X) (ys : List X) → AllByRecursion P (xs ++ y ∷ ys) → P y
+all_at P [] y ys all = all.0
+all_at P (x ∷ xs) y ys all = all_at P xs y ys all.1
+
+distinct_more : (keys : List TrackKey) (key : TrackKey) → AreDistinct keys → AreOthers key keys → AreDistinct (keys ++ key ∷ [])
+distinct_more [] key distinct others = (tt, tt)
+distinct_more (k ∷ ks) key distinct others = (all_more (λ other. other ≢ k) ks key distinct.0 (λ same. others.0 (sym same)), distinct_more ks key distinct.1 others.1)
+
+distinct_others : (keys : List TrackKey) (key : TrackKey) (more : List TrackKey) → AreDistinct (keys ++ key ∷ more) → AreOthers key keys
+distinct_others [] key more distinct = tt
+distinct_others (k ∷ ks) key more distinct = (λ same. all_at (λ other. other ≢ k) ks key more distinct.0 (sym same), distinct_others ks key more distinct.1)
+
+-- built with one more track
+pub built_more : (start period : ℤ) (tracks : List Track) (track : Track) → IsBuilt start period tracks →
+    at_near (latest_from start tracks) track.time <ℤ (start +ℤ period) → AreOthers track.key (keys_of tracks) → IsBuilt start period (tracks ++ track ∷ [])
+built_more start period tracks track built before others = record {
+  in_cycle = rw (rows_more start tracks track) (all_more (λ row. row.at <ℤ (start +ℤ period)) (rows_from start tracks) (row_at (latest_from start tracks) track) built.in_cycle before);
+  distinct = rw (map-append (λ t. t.key) tracks (track ∷ [])) (distinct_more (keys_of tracks) track.key built.distinct others);
+}
+
+rows_front : (present : ℤ) (tracks : List Track) (more : List Track) → rows_from present (tracks ++ more) ≡ rows_from present tracks ++ rows_from (latest_from present tracks) more
+rows_front present [] more = refl
+rows_front present (t ∷ ts) more = ap (λ rows. row_at present t ∷ rows) (rows_front (later present t) ts more)
+
+-- what a track that is built has, whatever follows it
+pub built_at : (start period : ℤ) (tracks : List Track) (track : Track) (more : List Track) → IsBuilt start period (tracks ++ track ∷ more) →
+    (at_near (latest_from start tracks) track.time <ℤ (start +ℤ period)) × AreOthers track.key (keys_of tracks)
+built_at start period tracks track more built = (
+  all_at (λ row. row.at <ℤ (start +ℤ period)) (rows_from start tracks) (row_at (latest_from start tracks) track) (rows_from (later (latest_from start tracks) track) more)
+      (rw (rows_front start tracks (track ∷ more)) at built.in_cycle),
+  distinct_others (keys_of tracks) track.key (keys_of more) (rw (map-append (λ t. t.key) tracks (track ∷ more)) at built.distinct),
+)
+
+-- the tracks so far are built, and this is the latest of their times
+pub record BuiltSoFar (start period present : ℤ) (tracks : List Track) : Type 0 where
+  pub latest : present ≡ latest_from start tracks
+  pub begun : start ≤ℤ present
+  pub in_cycle : present <ℤ (start +ℤ period)
+  pub built : IsBuilt start period tracks
+
+pub built_none : (start period : ℤ) → pos 1 ≤ℤ period → BuiltSoFar start period start []
+built_none start period some = record {
+  latest = refl;
+  begun = omega (arith, ints);
+  in_cycle = omega (arith, ints);
+  built = record { in_cycle = tt; distinct = tt };
+}
+
+pub built_next : (start period present at : ℤ) (tracks : List Track) (track : Track) → BuiltSoFar start period present tracks → at ≡ at_near present track.time →
+    at <ℤ (start +ℤ period) → AreOthers track.key (keys_of tracks) → BuiltSoFar start period (int_max present at) (tracks ++ track ∷ [])
+built_next start period present at tracks track so_far told before others =
+    let near : at ≡ at_near (latest_from start tracks) track.time = told ∙ ap (λ (p : ℤ). at_near p track.time) so_far.latest in
+    record {
+      latest = rw (latest_more start tracks track, so_far.latest, near) refl;
+      begun = greater_from start present at so_far.begun;
+      in_cycle = greater_below present at (start +ℤ period) so_far.in_cycle before;
+      built = built_more start period tracks track so_far.built (subst (λ (t : ℤ). t <ℤ (start +ℤ period)) near before) others;
+    }
+
+-- what a track has that is told next, where all tracks are built
+pub built_here : (start period present at : ℤ) (all before more : List Track) (track : Track) → all ≡ before ++ track ∷ more → BuiltSoFar start period present before → at ≡ at_near present track.time →
+    IsBuilt start period all → (at <ℤ (start +ℤ period)) × AreOthers track.key (keys_of before)
+built_here start period present at all before more track split so_far told built =
+    let here = built_at start period before track more (subst (IsBuilt start period) split built) in
+    let near : at ≡ at_near (latest_from start before) track.time = told ∙ ap (λ (p : ℤ). at_near p track.time) so_far.latest in
+    (subst (λ (t : ℤ). t <ℤ (start +ℤ period)) (sym near) here.0, here.1)
+
+-- what holds of each value holds after an insertion, if it does of the new one
+pub all_inserted : {K X : Type 0} (cmp : K → K → Ordering) (P : X → Type 0) (es : List (K × X)) (k : K) (v : X) →
+    AllByRecursion (λ e. P e.1) es → P v → AllByRecursion (λ e. P e.1) (insert_entry cmp es k v)
+all_inserted cmp P [] k v all here = (here, tt)
+all_inserted cmp P (e ∷ es) k v all here =
+    elim (cmp k e.0) as (λ o. AllByRecursion (λ e. P e.1) (match_ordering o ((k, v) ∷ e ∷ es) ((e.0, v) ∷ es) (e ∷ insert_entry cmp es k v)))
+    [ Less ↦ (here, all) | Equal ↦ (here, all.1) | Greater ↦ (all.0, all_inserted cmp P es k v all.1 here) ]

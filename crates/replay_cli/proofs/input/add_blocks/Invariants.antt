@@ -1,0 +1,17 @@
+-- the blocks given so far are told
+use Rattle.std.proofs.Common.{ℕ, List, length}
+use Rattle.std.specs.List.{All}
+use Rattle.asterix_blocks.specs.declared.blocks.Block.{Block}
+use Rattle.asterix_blocks.specs.Cutting.{Cuts}
+use Rattle.cat062_read.specs.Tracks.{IsPlaced}
+use Rattle.replay_cli.specs.Feeds.{TellsOf}
+use Rattle.replay_cli.proofs.input.add_blocks.Given as goal
+
+abbrev pub invariant-loop-block : goal.invariant-loop-block
+invariant-loop-block l = record {
+  told : (fed : List ℕ) (given : List Block) → Cuts l.fn.cutter fed given → TellsOf l.fn.input given → (more : List Block) × Cuts l.cutter fed more × TellsOf l.input more;
+  placed : All IsPlaced l.fn.input.records.items → All IsPlaced l.input.records.items;
+}
+
+abbrev pub decreases-loop-block : goal.decreases-loop-block
+decreases-loop-block l = length l.cutter.octets
