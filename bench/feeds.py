@@ -1,8 +1,12 @@
-"""Feeds of any number of tracks in the form that the program reads, the same ones in each run.
+"""Feeds of any number of tracks, the same ones in each run.
 
-Traffic of a square of 200 km, on flight levels 50 to 400, one in four climbing or descending. Each
-fiftieth track flies towards the one before it on the same level, 3 km away. One track in forty is
-tentative. Numbers stand in no order, so that the table has to be sorted.
+`feed` gives traffic to be examined, in blocks of one record: a square of 200 km, on flight levels 50 to
+400, one in four climbing or descending. Each fiftieth track flies towards the one before it on the same
+level, 3 km away. One track in forty is tentative. Numbers stand in no order, so that the table has to be
+sorted.
+
+`mixed` gives records to be read, of many shapes of category 062, in blocks of many records with blocks of
+other categories between them. All tracks are tentative but for a few pairs that fly head on.
 """
 
 START = 4_608_000
@@ -73,3 +77,146 @@ def feed(count):
         octets += block(track, numbers[i], START + i * PERIOD // count, tentative)
         eligible += not tentative
     return bytes(octets), eligible
+
+
+# What `mixed` makes its records of: the octets of the fixed items, the size of a part of the extended ones,
+# the explicit ones and the subfields of the compound ones, by field reference number.
+FIXED = {1: 2, 3: 1, 4: 3, 5: 8, 6: 6, 7: 4, 8: 2, 9: 2, 10: 7, 12: 2,
+         15: 1, 17: 2, 18: 2, 19: 2, 20: 2, 23: 1, 25: 2}
+EXTENDED = {22: 1, 26: 3}
+EXPLICIT = (34, 35)
+COMPOUND = {frn: sizes.split() for frn, sizes in {
+    11: "3 6 2 2 2 2 2  1 R15 2 2 7 2 2  2 2 2 2 1 8 1  6 2 1 R8 2 2 2",
+    14: "1 1 1 1 2 1 1  1 1 1",
+    16: "1 " * 31,
+    21: "2 7 4 1 4 1 4  4 3 2 2 R4 6 1  7 7 2 7",
+    24: "1 4 6 2 2 1 1",
+    27: "4 2 4 1 1 2 2  1",
+    28: "2 4 2 2 2 1",
+}.items()}
+STATUS = 13
+
+# Shapes of records: their items, how many templates each has, and how many FSPEC octets stand behind the
+# last one that names an item. The last four shapes aren't usable.
+TRACKER = {1, 3, 4, 5, 6, 7, 9, 10, 11, 12, 13, 14, 15, 16, 17, 19, 20}
+SHAPES = [
+    ({1, 4, 6, 12, 13}, 3, 0),
+    ({1, 4, 6, 7, 12, 13, 17, 20}, 8, 0),
+    (TRACKER, 16, 0),
+    (TRACKER | {8, 18, 22, 23, 25, 26}, 4, 0),
+    (TRACKER | {21, 27, 28}, 4, 0),
+    ({1, 4, 6, 9, 12, 13, 19, 24, 28}, 2, 1),
+    ({1, 4, 6, 7, 12, 13, 17, 34, 35}, 2, 0),
+    ({1, 4, 12, 13}, 2, 0),
+    (set(FIXED) | set(EXTENDED) | set(COMPOUND) | {STATUS, *EXPLICIT}, 4, 0),
+    ({1, 4, 6, 12, 13}, 1, 2),
+    ({1, 4, 7, 12}, 1, 0),
+    (TRACKER - {1}, 1, 0),
+    (TRACKER - {4}, 1, 0),
+    ({1, 4, 6, 13, 17}, 1, 0),
+]
+
+# Blocks that are read over: north markers of category 34, and reports of category 48.
+OTHERS = [bytes.fromhex("22 00 0B F0 19 0A 01 46 50 10 00"), bytes([0x30, 0x01, 0x03]) + bytes(256)]
+
+HEAD_ON = 10
+
+
+def presence(named, spare_octets):
+    """The octets that name these numbers, from 1, and so many more."""
+    count = max(1, -(-max(named, default=0) // 7)) + spare_octets
+    octets = bytearray([1] * (count - 1) + [0])
+    for number in named:
+        octets[(number - 1) // 7] |= 0x80 >> (number - 1) % 7
+    return octets
+
+
+def text(draws, size):
+    return bytearray(draws.below(256) for _ in range(size))
+
+
+def parts(draws, size):
+    """One part to three, each but the last asking for another."""
+    octets = text(draws, size * draws.between(1, 3))
+    for i in range(size - 1, len(octets), size):
+        octets[i] = octets[i] | 1 if i + 1 < len(octets) else octets[i] & 0xFE
+    return octets
+
+
+def subfield(draws, size):
+    if not size.startswith("R"):
+        return text(draws, int(size))
+    count = draws.between(0, 3)
+    return bytearray([count]) + text(draws, count * int(size[1:]))
+
+
+def item(draws, frn):
+    if frn in FIXED:
+        return text(draws, FIXED[frn])
+    if frn in EXTENDED:
+        return parts(draws, EXTENDED[frn])
+    if frn in EXPLICIT:
+        size = draws.between(1, 20)
+        return bytearray([size]) + text(draws, size - 1)
+    if frn == STATUS:
+        octets = parts(draws, 1)
+        octets[0] |= 2
+        return octets
+    sizes = COMPOUND[frn]
+    named = [i for i in range(1, len(sizes) + 1) if draws.below(3) == 0]
+    return presence(named, 0) + b"".join(subfield(draws, sizes[i - 1]) for i in named)
+
+
+def template(draws, frns, spare_octets):
+    """A record, and where its 010, 070 and 040 stand, if it has them."""
+    octets = presence(frns, spare_octets)
+    places = {}
+    for frn in sorted(frns):
+        places[frn] = len(octets)
+        octets += item(draws, frn)
+    return octets, places.get(1), places.get(4), places.get(12)
+
+
+def head_on(i):
+    """One of a pair of tracks that fly towards each other, 3 km apart; the pairs are 50 km apart."""
+    pair, second = divmod(i, 2)
+    track = {"x": 6_000 * second, "y": 100_000 * pair, "vx": -1_000 if second else 1_000, "vy": 0,
+             "level": 1_320, "rate": 0}
+    return block(track, 0, 0, False)[3:], 3, 5, 18
+
+
+def framed(body):
+    return bytes([62]) + (3 + len(body)).to_bytes(2, "big") + body
+
+
+def mixed(count):
+    """A feed of so many records, at least 40 and at most 1,000,000, each of another track."""
+    draws = Draws()
+    templates = [template(draws, frns, spare_octets)
+                 for frns, copies, spare_octets in SHAPES for _ in range(copies)]
+    step = count // (2 * HEAD_ON)
+    feed = bytearray()
+    body = bytearray()
+    room = draws.between(1, 200)
+    for i in range(count):
+        pair = i % step == 0 and i // step < 2 * HEAD_ON
+        chosen = head_on(i // step) if pair else templates[draws.below(len(templates))]
+        octets, source, time, number = chosen
+        record = bytearray(octets)
+        # An odd number gives each track another key of 20 bits, in no order.
+        key = i * 618_033 % 2**20
+        if source:
+            record[source:source + 2] = bytes([25, 10 + (key >> 16)])
+        if time:
+            record[time:time + 3] = (START + i * PERIOD // count).to_bytes(3, "big")
+        if number:
+            record[number:number + 2] = (key & 0xFFFF).to_bytes(2, "big")
+        if room == 0 or 3 + len(body) + len(record) > 0xFFFF:
+            feed += framed(body)
+            if draws.below(10) == 0:
+                feed += OTHERS[draws.below(len(OTHERS))]
+            body = bytearray()
+            room = draws.between(1, 200)
+        body += record
+        room -= 1
+    return bytes(feed + framed(body))
