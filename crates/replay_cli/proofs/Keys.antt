@@ -1,20 +1,18 @@
 -- Which keys a table holds.
 use Rattle.std.proofs.Math.Dec.{eqb}
-use Rattle.std.proofs.Common.{◌≡◌, ◌≢◌, ℕ, ◌&&◌, Bool, true, false, cond, List, [], ◌∷◌, ◌++◌, Option, None, Some, IsSome, BTreeMap, refl, ap, sym, ◌∙◌, subst}
+use Rattle.std.proofs.Common.{◌≡◌, ◌≢◌, ℕ, ◌&&◌, Bool, true, false, List, [], ◌∷◌, ◌++◌, refl, ap, sym, ◌∙◌}
 use Rattle.std.specs.declared.cmp.Ordering.{Ordering}
 use Rattle.std.specs.declared.cmp.Ordering.TheVariants.{Less, Equal, Greater}
-use Rattle.std.specs.Ordering.{nat_cmp, ordering_then, is_eq}
-use Rattle.std.specs.BTreeMap as tree
+use Rattle.std.specs.Ordering.{nat_cmp, ordering_then}
 use Rattle.std.specs.Cmp.{nat_cmp_is}
 use Rattle.std.proofs.lemmas.Bool.{and_parts, eqb-true, eq-eqb}
 use Rattle.std.proofs.lemmas.Cmp.{ranked}
 use Rattle.std.proofs.lemmas.List.{map-append}
 use Rattle.cat062_read.specs.declared.track.Track.{Track}
 use Rattle.cat062_read.specs.declared.track.TrackKey.{TrackKey}
-use Rattle.replay_cli.specs.declared.table.Row.{Row}
 use Rattle.replay_cli.specs.Cycle.{key_cmp}
 use Rattle.replay_cli.specs.Form.{AreOthers, keys_of}
-use Rattle.replay_cli.proofs.Tables.{all_more, all_front, all_at}
+use Rattle.replay_cli.proofs.Tables.{all_more, all_at}
 
 nat_equal : (x y : ℕ) → nat_cmp x y ≡ Equal → x ≡ y
 nat_equal x y e = ranked x y Equal (sym e)
@@ -27,7 +25,7 @@ then_equal Greater b e = absurd (cc)
 same_fields : (s t i j m n : ℕ) → s ≡ t → i ≡ j → m ≡ n → (let k : TrackKey = record { sac = s; sic = i; number = m } in k) ≡ record { sac = t; sic = j; number = n }
 same_fields s t i j m n one two three = rw (one, two, three) refl
 
-key_equal : (a b : TrackKey) → key_cmp a b ≡ Equal → a ≡ b
+pub key_equal : (a b : TrackKey) → key_cmp a b ≡ Equal → a ≡ b
 key_equal a b e =
     let sac = then_equal (nat_cmp a.sac b.sac) (ordering_then (nat_cmp a.sic b.sic) (nat_cmp a.number b.number)) e in
     let sic = then_equal (nat_cmp a.sic b.sic) (nat_cmp a.number b.number) sac.1 in
@@ -53,46 +51,8 @@ other_keys a b e same =
 nat_same : (x : ℕ) → nat_cmp x x ≡ Equal
 nat_same x = sym (nat_cmp_is x x Equal refl)
 
-key_same : (key : TrackKey) → key_cmp key key ≡ Equal
+pub key_same : (key : TrackKey) → key_cmp key key ≡ Equal
 key_same key = rw (nat_same key.sac, nat_same key.sic, nat_same key.number) refl
-
--- the table has exactly these keys
-pub record HoldsKeys (rows : BTreeMap TrackKey Row) (keys : List TrackKey) : Type 0 where
-  pub absent : (key : TrackKey) → tree.get key_cmp rows key ≡ None → AreOthers key keys
-  pub known : (key : TrackKey) → IsSome (tree.get key_cmp rows key) → AreOthers key keys → ⊥
-
-is_equal : (o : Ordering) → is_eq o ≡ true → o ≡ Equal
-is_equal Less e = absurd (cc)
-is_equal Equal e = refl
-is_equal Greater e = absurd (cc)
-
-equal_at : (key q : TrackKey) → is_eq (key_cmp key q) ≡ true → key ≡ q
-equal_at key q e = key_equal key q (is_equal (key_cmp key q) e)
-
-absent_more : (old new : BTreeMap TrackKey Row) (keys : List TrackKey) (key : TrackKey) (row : Row) (q : TrackKey) (here : Bool) → is_eq (key_cmp key q) ≡ here → HoldsKeys old keys
-    → tree.get key_cmp new q ≡ cond here (Some row) (tree.get key_cmp old q) → tree.get key_cmp new q ≡ None → AreOthers q (keys ++ key ∷ [])
-absent_more old new keys key row q true at holds updated none = absurd (cc)
-absent_more old new keys key row q false at holds updated none =
-    let other : key ≢ q = λ same. let e : is_eq (key_cmp key q) ≡ true = rw (sym same) (ap is_eq (key_same key)) in absurd (cc) in
-    all_more (λ k. k ≢ q) keys key (holds.absent q (sym updated ∙ none)) other
-
-known_more : (old new : BTreeMap TrackKey Row) (keys : List TrackKey) (key : TrackKey) (row : Row) (q : TrackKey) (here : Bool) → is_eq (key_cmp key q) ≡ here → HoldsKeys old keys
-    → tree.get key_cmp new q ≡ cond here (Some row) (tree.get key_cmp old q) → IsSome (tree.get key_cmp new q) → AreOthers q (keys ++ key ∷ []) → ⊥
-known_more old new keys key row q true at holds updated some others = all_at (λ k. k ≢ q) keys key [] others (equal_at key q at)
-known_more old new keys key row q false at holds updated some others =
-    holds.known q (subst (λ (o : Option Row). IsSome o) updated some) (all_front (λ k. k ≢ q) keys (key ∷ []) others)
-
-pub holds_more : (old new : BTreeMap TrackKey Row) (keys : List TrackKey) (key : TrackKey) (row : Row) → HoldsKeys old keys → tree.Updates key_cmp old new key (Some row) → HoldsKeys new (keys ++ key ∷ [])
-holds_more old new keys key row holds updates = record {
-  absent = λ q. absent_more old new keys key row q (is_eq (key_cmp key q)) refl holds (updates.0 q);
-  known = λ q. known_more old new keys key row q (is_eq (key_cmp key q)) refl holds (updates.0 q);
-}
-
-pub holds_none : (rows : BTreeMap TrackKey Row) → rows.entries ≡ [] → HoldsKeys rows []
-holds_none rows empty = record {
-  absent = λ q none. tt;
-  known = λ q some others. let none : tree.get key_cmp rows q ≡ None = rw empty refl in absurd (cc);
-}
 
 -- a track with this key stands among the tracks
 pub key_found : (key : TrackKey) (all before more : List Track) (track : Track) → all ≡ before ++ track ∷ more → track.key ≡ key → AreOthers key (keys_of all) → ⊥

@@ -9,4 +9,5 @@ pub mod Messages
 pub mod Read
 pub mod Rooted
 pub mod Signed
+pub mod Sorting
 pub mod Tables

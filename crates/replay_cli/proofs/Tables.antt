@@ -1,17 +1,12 @@
 -- The table and the form of one more track.
 use Rattle.std.proofs.Common.{◌≡◌, ◌≢◌, ℤ, pos, ◌+ℤ◌, ◌≤ℤ◌, ◌<ℤ◌, subst, arith, List, [], ◌∷◌, ◌++◌, refl, ap, sym, ◌∙◌}
 use Rattle.std.specs.List.{AllByRecursion}
-use Rattle.std.specs.declared.cmp.Ordering.{Ordering}
-use Rattle.std.specs.declared.cmp.Ordering.TheVariants.{Less, Equal, Greater}
-use Rattle.std.specs.Ordering.{match_ordering}
-use Rattle.std.specs.BTreeMap.{insert_entry}
 use Rattle.std.proofs.lemmas.Int.{ints}
 use Rattle.std.specs.Int.{int_max}
 use Rattle.std.proofs.lemmas.List.{map-append}
 use Rattle.std.proofs.lemmas.List.Sums.{fold_push}
 use Rattle.cat062_read.specs.declared.track.Track.{Track}
 use Rattle.cat062_read.specs.declared.track.TrackKey.{TrackKey}
-use Rattle.replay_cli.specs.Cycle.{key_cmp, table}
 use Rattle.replay_cli.specs.Form.{AreDistinct, AreOthers, IsBuilt, keys_of}
 use Rattle.replay_cli.proofs.Cycles.{greater_from, greater_below}
 use Rattle.replay_cli.specs.Stamps.{at_near, row_at, later, latest_from, rows_from}
@@ -23,12 +18,6 @@ latest_more present tracks track = fold_push later present tracks track
 pub rows_more : (present : ℤ) (tracks : List Track) (track : Track) → rows_from present (tracks ++ track ∷ []) ≡ rows_from present tracks ++ row_at (latest_from present tracks) track ∷ []
 rows_more present [] track = refl
 rows_more present (t ∷ ts) track = ap (λ rows. row_at present t ∷ rows) (rows_more (later present t) ts track)
-
-pub table_more : (present : ℤ) (tracks : List Track) (track : Track) →
-    table (rows_from present (tracks ++ track ∷ [])) ≡ insert_entry key_cmp (table (rows_from present tracks)) track.key (row_at (latest_from present tracks) track)
-table_more present tracks track =
-    ap table (rows_more present tracks track)
-    ∙ fold_push (λ entries row. insert_entry key_cmp entries row.track.key row) [] (rows_from present tracks) (row_at (latest_from present tracks) track)
 
 -- all of a list, and of its front
 pub all_more : {X : Type 0} (P : X → Type 0) (xs : List X) (x : X) → AllByRecursion P xs → P x → AllByRecursion P (xs ++ x ∷ [])
@@ -72,44 +61,41 @@ built_at start period tracks track more built = (
   distinct_others (keys_of tracks) track.key (keys_of more) (rw (map-append (λ t. t.key) tracks (track ∷ more)) at built.distinct),
 )
 
--- the tracks so far are built, and this is the latest of their times
-pub record BuiltSoFar (start period present : ℤ) (tracks : List Track) : Type 0 where
+-- this is the latest time of the tracks so far, all of them before the cycle's end
+pub record TimedSoFar (start period present : ℤ) (tracks : List Track) : Type 0 where
   pub latest : present ≡ latest_from start tracks
   pub begun : start ≤ℤ present
   pub in_cycle : present <ℤ (start +ℤ period)
+
+-- the tracks so far are built
+pub record BuiltSoFar (start period present : ℤ) (tracks : List Track) : Type 0 where
+  pub timed : TimedSoFar start period present tracks
   pub built : IsBuilt start period tracks
 
-pub built_none : (start period : ℤ) → pos 1 ≤ℤ period → BuiltSoFar start period start []
-built_none start period some = record {
-  latest = refl;
-  begun = omega (arith, ints);
-  in_cycle = omega (arith, ints);
-  built = record { in_cycle = tt; distinct = tt };
+pub timed_none : (start period : ℤ) → pos 1 ≤ℤ period → TimedSoFar start period start []
+timed_none start period some = record { latest = refl; begun = omega (arith, ints); in_cycle = omega (arith, ints) }
+
+pub near_latest : (start period present at : ℤ) (tracks : List Track) (track : Track) → TimedSoFar start period present tracks → at ≡ at_near present track.time → at ≡ at_near (latest_from start tracks) track.time
+near_latest start period present at tracks track so_far told = told ∙ ap (λ (p : ℤ). at_near p track.time) so_far.latest
+
+pub timed_next : (start period present at : ℤ) (tracks : List Track) (track : Track) → TimedSoFar start period present tracks → at ≡ at_near present track.time →
+    at <ℤ (start +ℤ period) → TimedSoFar start period (int_max present at) (tracks ++ track ∷ [])
+timed_next start period present at tracks track so_far told before = record {
+  latest = rw (latest_more start tracks track, so_far.latest, near_latest start period present at tracks track so_far told) refl;
+  begun = greater_from start present at so_far.begun;
+  in_cycle = greater_below present at (start +ℤ period) so_far.in_cycle before;
 }
 
 pub built_next : (start period present at : ℤ) (tracks : List Track) (track : Track) → BuiltSoFar start period present tracks → at ≡ at_near present track.time →
     at <ℤ (start +ℤ period) → AreOthers track.key (keys_of tracks) → BuiltSoFar start period (int_max present at) (tracks ++ track ∷ [])
-built_next start period present at tracks track so_far told before others =
-    let near : at ≡ at_near (latest_from start tracks) track.time = told ∙ ap (λ (p : ℤ). at_near p track.time) so_far.latest in
-    record {
-      latest = rw (latest_more start tracks track, so_far.latest, near) refl;
-      begun = greater_from start present at so_far.begun;
-      in_cycle = greater_below present at (start +ℤ period) so_far.in_cycle before;
-      built = built_more start period tracks track so_far.built (subst (λ (t : ℤ). t <ℤ (start +ℤ period)) near before) others;
-    }
+built_next start period present at tracks track so_far told before others = record {
+  timed = timed_next start period present at tracks track so_far.timed told before;
+  built = built_more start period tracks track so_far.built (subst (λ (t : ℤ). t <ℤ (start +ℤ period)) (near_latest start period present at tracks track so_far.timed told) before) others;
+}
 
 -- what a track has that is told next, where all tracks are built
-pub built_here : (start period present at : ℤ) (all before more : List Track) (track : Track) → all ≡ before ++ track ∷ more → BuiltSoFar start period present before → at ≡ at_near present track.time →
+pub built_here : (start period present at : ℤ) (all before more : List Track) (track : Track) → all ≡ before ++ track ∷ more → TimedSoFar start period present before → at ≡ at_near present track.time →
     IsBuilt start period all → (at <ℤ (start +ℤ period)) × AreOthers track.key (keys_of before)
 built_here start period present at all before more track split so_far told built =
     let here = built_at start period before track more (subst (IsBuilt start period) split built) in
-    let near : at ≡ at_near (latest_from start before) track.time = told ∙ ap (λ (p : ℤ). at_near p track.time) so_far.latest in
-    (subst (λ (t : ℤ). t <ℤ (start +ℤ period)) (sym near) here.0, here.1)
-
--- what holds of each value holds after an insertion, if it does of the new one
-pub all_inserted : {K X : Type 0} (cmp : K → K → Ordering) (P : X → Type 0) (es : List (K × X)) (k : K) (v : X) →
-    AllByRecursion (λ e. P e.1) es → P v → AllByRecursion (λ e. P e.1) (insert_entry cmp es k v)
-all_inserted cmp P [] k v all here = (here, tt)
-all_inserted cmp P (e ∷ es) k v all here =
-    elim (cmp k e.0) as (λ o. AllByRecursion (λ e. P e.1) (match_ordering o ((k, v) ∷ e ∷ es) ((e.0, v) ∷ es) (e ∷ insert_entry cmp es k v)))
-    [ Less ↦ (here, all) | Equal ↦ (here, all.1) | Greater ↦ (all.0, all_inserted cmp P es k v all.1 here) ]
+    (subst (λ (t : ℤ). t <ℤ (start +ℤ period)) (sym (near_latest start period present at before track so_far told)) here.0, here.1)

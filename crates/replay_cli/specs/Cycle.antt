@@ -21,6 +21,14 @@ use Rattle.replay_cli.specs.Stca.{stca_hit}
 abbrev pub key_cmp : TrackKey → TrackKey → Ordering
 key_cmp a b = ordering_then (nat_cmp a.sac b.sac) (ordering_then (nat_cmp a.sic b.sic) (nat_cmp a.number b.number))
 
+-- rows in order, by their keys
+abbrev pub row_cmp : Row → Row → Ordering
+row_cmp a b = key_cmp a.track.key b.track.key
+
+-- each row with its key
+abbrev pub entries_of : List Row → List (TrackKey × Row)
+entries_of rows = map (λ row. (row.track.key, row)) rows
+
 -- the table: each key with its row, in key order
 abbrev pub table : List Row → List (TrackKey × Row)
 table rows = fold (λ entries row. insert_entry key_cmp entries row.track.key row) [] rows

@@ -4,7 +4,7 @@ ghost use Rattle.std.specs.List.{filter_map, AllByRecursion, enumerate_from};
 ghost use Rattle.cat004_write.specs.Messages.{FitsOctets};
 ghost use Rattle.replay_cli.specs.Stca.{IsSet};
 ghost use Rattle.replay_cli.specs.Motions.{InRange};
-ghost use Rattle.replay_cli.specs.Cycle.{cycle_time, events, hit_of, hits as hits_of_movers, first_event as first_event_of, is_eligible as eligible, is_recent as recent, mover_of, movers as movers_of_rows};
+ghost use Rattle.replay_cli.specs.Cycle.{cycle_time, entries_of, events, hit_of, hits as hits_of_movers, first_event as first_event_of, is_eligible as eligible, is_recent as recent, mover_of, movers as movers_of_rows};
 ghost use Rattle.cat062_read.specs.Tracks.{IsInPlane, IsLevelled};
 ghost use Rattle.cat004_write.specs.Blocks.{pack};
 ghost use Rattle.replay_cli.specs.Reference.{messages};
@@ -18,7 +18,6 @@ use crate::table::Row;
 use cat004_write::{Event, HitData, Net, NoMemory, Packer, Status, Subject, write_event};
 use cat062_read::{Track, TrackKey};
 use std::alloc::Global;
-use std::collections::BTreeMap;
 
 /// An eligible row: its key, and its motion at the cycle's time.
 #[derive(Clone, Copy, Debug)]
@@ -65,15 +64,16 @@ fn is_recent(site: &Site, row: &Row) -> bool
 }
 
 /// The row's mover, where the nets look at the row and it has a level.
-fn eligible_mover(site: &Site, key: TrackKey, row: &Row) -> Option<Mover>
+fn eligible_mover(site: &Site, row: &Row) -> Option<Mover>
     requires site { IsSite site.now }
     requires row { IsRow site.now row.now }
-    ensures mover { result ≡ mover_of site.now (key, row.now) }
+    ensures mover { result ≡ mover_of site.now (row.now.track.key, row.now) }
     ensures range { IfSome result (λ m. InRange m.motion) }
 {
     if !(is_recent(site, row) && is_eligible(site, &row.track)) {
         return None;
     }
+    let key = row.track.key;
     let motion = motion_at(&row.track, row.at, end_of_cycle(site))?;
     Some(Mover { key, motion })
 }
@@ -97,19 +97,15 @@ fn pair_hit(site: &Site, a: &Mover, b: &Mover) -> Option<Hit>
 }
 
 /// The rows that the nets look at and that have a level, in key order.
-pub fn movers(
-    alloc: Global,
-    site: &Site,
-    rows: &BTreeMap<TrackKey, Row>,
-) -> Result<Vec<Mover>, NoMemory>
+pub fn movers(alloc: Global, site: &Site, rows: &[Row]) -> Result<Vec<Mover>, NoMemory>
     requires site { IsSite site.now }
-    requires rows { AllByRecursion (λ row. IsRow site.now row.1) rows.now.entries }
-    ensures movers { IfOk result (λ v. v.items ≡ movers_of_rows site.now rows.now.entries) }
+    requires rows { All (IsRow site.now) rows.now }
+    ensures movers { IfOk result (λ v. v.items ≡ movers_of_rows site.now (entries_of rows.now)) }
     ensures range { IfOk result (λ v. AllByRecursion (λ m. InRange m.motion) v.items) }
 {
     let mut movers = Vec::new(alloc);
-    for (key, row) in rows {
-        if let Some(mover) = eligible_mover(site, *key, row) {
+    for row in rows {
+        if let Some(mover) = eligible_mover(site, row) {
             movers.push(mover)?;
         }
     }

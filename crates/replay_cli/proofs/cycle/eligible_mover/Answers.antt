@@ -36,7 +36,7 @@ looked c =
 
 pub returns-clause-mover : goal.returns-clause-mover
 returns-clause-mover c =
-    moves c.args.site.now c.args.key c.args.row.now c.in_ok-motion.motion
+    moves c.args.site.now c.args.row.now.track.key c.args.row.now c.in_ok-motion.motion
     (looked c).0
     (looked c).1
     (sym (rw (told_at c, taken c) at c.in_ok-motion.ensures.motion))

@@ -19,10 +19,10 @@ returns-then-end-at-clause-unbuilt c = λ qnh built.
     let split = found_at (λ raw. track_of raw (pos 0)) c.args.records.now c.loop-i.i _ c.in-Some.track c.loop-i-test.true (sym c.in-Some.ensures.track) in
     let all = built_by_any c.args.start c.args.period qnh (pos 0) c.args.records.now built in
     let so_far : BuiltSoFar c.args.start c.args.period present before = rw (start_is c.args.start c.args.period cycle, period_is c.args.start c.args.period cycle) at c.loop-i.invariant in
-    let here = built_here c.args.start c.args.period present c.at_near-at.result (tracks_of (pos 0) c.args.records.now) before more c.in-Some.track split so_far c.at_near-at.ensures.at all in
+    let here = built_here c.args.start c.args.period present c.at_near-at.result (tracks_of (pos 0) c.args.records.now) before more c.in-Some.track split so_far.timed c.at_near-at.ensures.at all in
     elim c.then-end-at.branch [
       | then-end-at-via-then-end-at w ↦
-          let at = near_is c.args.start c.args.period present c.at_near-at.result cycle so_far.begun so_far.in_cycle c.at_near-at.ensures.low c.at_near-at.ensures.high in
+          let at = near_is c.args.start c.args.period present c.at_near-at.result cycle so_far.timed.begun so_far.timed.in_cycle c.at_near-at.ensures.low c.at_near-at.ensures.high in
           is_late (c.args.start +ℤ c.args.period) c.at_near-at.result (rw (end_is c.args.start c.args.period cycle, at) at w.if-end-at.true) here.0
       | then-end-at-via-else-end-at+then-is_told w ↦ w.if-is_told.ensures.told here.1
     ]
@@ -38,11 +38,11 @@ loop-i-preserved c =
     elim c.match-track_of.branch [
       | in-Some+else-end-at+else-is_told w ↦
           let more = found_more (λ raw. track_of raw (pos 0)) c.args.records.now c.loop-i.i _ w.in-Some.track c.loop-i-test.true (sym w.in-Some.ensures.track) in
-          let at = near_is c.args.start c.args.period present w.at_near-at.result cycle so_far.begun so_far.in_cycle w.at_near-at.ensures.low w.at_near-at.ensures.high in
+          let at = near_is c.args.start c.args.period present w.at_near-at.result cycle so_far.timed.begun so_far.timed.in_cycle w.at_near-at.ensures.low w.at_near-at.ensures.high in
           let early = is_early (c.args.start +ℤ c.args.period) w.at_near-at.result (rw (end_is c.args.start c.args.period cycle, at) at w.if-end-at.false) in
           let next = built_next c.args.start c.args.period present w.at_near-at.result before w.in-Some.track so_far w.at_near-at.ensures.at early w.if-is_told.ensures.other in
           let latest = rw at at w.max-present.ensures.value in
-          let kept = later_is c.args.start c.args.period present w.at_near-at.result cycle so_far.begun so_far.in_cycle w.at_near-at.ensures.low w.at_near-at.ensures.high in
+          let kept = later_is c.args.start c.args.period present w.at_near-at.result cycle so_far.timed.begun so_far.timed.in_cycle w.at_near-at.ensures.low w.at_near-at.ensures.high in
           rw (begun, lasting, w.present-is, latest, kept, more) next
       | in_default w ↦
           let same = none_more (λ raw. track_of raw (pos 0)) c.args.records.now c.loop-i.i _ c.loop-i-test.true (sym w.in_default.ensures.track) in
