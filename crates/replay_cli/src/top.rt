@@ -125,7 +125,7 @@ fn done(accepted: bool) -> u8
 /// Does all that the program does, and answers the exit status: 0 done, 2 for other words than
 /// `replay NAME`, 3 for a feed whose records aren't built, 4 for a name that can't be opened or a read that
 /// failed, 5 for a write that failed, 6 for want of memory, 7 done with something refused or a feed that
-/// ends within a block. The order is words, open, read, form, write.
+/// doesn't end behind a whole block. The order is words, open, read, form, write.
 /// Nothing is written to `report`, and no step is taken.
 pub fn replay_top<W: World, K: Sink, L: Ledger>(
     alloc: Global,
