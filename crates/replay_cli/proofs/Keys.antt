@@ -12,7 +12,8 @@ use Rattle.cat062_read.specs.declared.track.Track.{Track}
 use Rattle.cat062_read.specs.declared.track.TrackKey.{TrackKey}
 use Rattle.replay_cli.specs.Cycle.{key_cmp}
 use Rattle.replay_cli.specs.Form.{AreOthers, keys_of}
-use Rattle.replay_cli.proofs.Tables.{all_more, all_at}
+use Rattle.replay_cli.proofs.Lists.{each_push}
+use Rattle.replay_cli.proofs.Tables.{all_at}
 
 nat_equal : (x y : ℕ) → nat_cmp x y ≡ Equal → x ≡ y
 nat_equal x y e = ranked x y Equal (sym e)
@@ -62,4 +63,4 @@ key_found key all before more track split same others =
 
 pub others_more : (key : TrackKey) (tracks : List Track) (track : Track) → AreOthers key (keys_of tracks) → track.key ≢ key → AreOthers key (keys_of (tracks ++ track ∷ []))
 others_more key tracks track others other =
-    rw (map-append (λ (t : Track). t.key) tracks (track ∷ [])) (all_more (λ k. k ≢ key) (keys_of tracks) track.key others other)
+    rw (map-append (λ (t : Track). t.key) tracks (track ∷ [])) (each_push (λ k. k ≢ key) (keys_of tracks) track.key others other)

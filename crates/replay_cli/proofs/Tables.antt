@@ -8,6 +8,7 @@ use Rattle.std.proofs.lemmas.List.Sums.{fold_push}
 use Rattle.cat062_read.specs.declared.track.Track.{Track}
 use Rattle.cat062_read.specs.declared.track.TrackKey.{TrackKey}
 use Rattle.replay_cli.specs.Form.{AreDistinct, AreOthers, IsBuilt, keys_of}
+use Rattle.replay_cli.proofs.Lists.{each_push}
 use Rattle.replay_cli.proofs.Cycles.{greater_from, greater_below}
 use Rattle.replay_cli.specs.Stamps.{at_near, row_at, later, latest_from, rows_from}
 
@@ -19,22 +20,14 @@ pub rows_more : (present : ℤ) (tracks : List Track) (track : Track) → rows_f
 rows_more present [] track = refl
 rows_more present (t ∷ ts) track = ap (λ rows. row_at present t ∷ rows) (rows_more (later present t) ts track)
 
--- all of a list, and of its front
-pub all_more : {X : Type 0} (P : X → Type 0) (xs : List X) (x : X) → AllByRecursion P xs → P x → AllByRecursion P (xs ++ x ∷ [])
-all_more P [] x all here = (here, tt)
-all_more P (y ∷ ys) x all here = (all.0, all_more P ys x all.1 here)
-
-pub all_front : {X : Type 0} (P : X → Type 0) (xs ys : List X) → AllByRecursion P (xs ++ ys) → AllByRecursion P xs
-all_front P [] ys all = tt
-all_front P (x ∷ xs) ys all = (all.0, all_front P xs ys all.1)
-
+-- what all elements of a list have, one of them has
 pub all_at : {X : Type 0} (P : X → Type 0) (xs : List X) (y : X) (ys : List X) → AllByRecursion P (xs ++ y ∷ ys) → P y
 all_at P [] y ys all = all.0
 all_at P (x ∷ xs) y ys all = all_at P xs y ys all.1
 
 distinct_more : (keys : List TrackKey) (key : TrackKey) → AreDistinct keys → AreOthers key keys → AreDistinct (keys ++ key ∷ [])
 distinct_more [] key distinct others = (tt, tt)
-distinct_more (k ∷ ks) key distinct others = (all_more (λ other. other ≢ k) ks key distinct.0 (λ same. others.0 (sym same)), distinct_more ks key distinct.1 others.1)
+distinct_more (k ∷ ks) key distinct others = (each_push (λ other. other ≢ k) ks key distinct.0 (λ same. others.0 (sym same)), distinct_more ks key distinct.1 others.1)
 
 distinct_others : (keys : List TrackKey) (key : TrackKey) (more : List TrackKey) → AreDistinct (keys ++ key ∷ more) → AreOthers key keys
 distinct_others [] key more distinct = tt
@@ -44,7 +37,7 @@ distinct_others (k ∷ ks) key more distinct = (λ same. all_at (λ other. other
 pub built_more : (start period : ℤ) (tracks : List Track) (track : Track) → IsBuilt start period tracks →
     at_near (latest_from start tracks) track.time <ℤ (start +ℤ period) → AreOthers track.key (keys_of tracks) → IsBuilt start period (tracks ++ track ∷ [])
 built_more start period tracks track built before others = record {
-  in_cycle = rw (rows_more start tracks track) (all_more (λ row. row.at <ℤ (start +ℤ period)) (rows_from start tracks) (row_at (latest_from start tracks) track) built.in_cycle before);
+  in_cycle = rw (rows_more start tracks track) (each_push (λ row. row.at <ℤ (start +ℤ period)) (rows_from start tracks) (row_at (latest_from start tracks) track) built.in_cycle before);
   distinct = rw (map-append (λ t. t.key) tracks (track ∷ [])) (distinct_more (keys_of tracks) track.key built.distinct others);
 }
 
