@@ -4,12 +4,12 @@ use Rattle.std.specs.Prelude.{string_bytes, bytes_eq}
 use Rattle.outside_io.specs.declared.memory.source.MemSource.{MemSource}
 use Rattle.outside_io.specs.declared.memory.world.MemFile.{MemFile}
 use Rattle.outside_io.specs.Memory.{told, source_of, IsFresh}
-use Rattle.outside_io.specs.Names.{bytes_of, Opens}
+use Rattle.outside_io.specs.Names.{bytes_of, Lacks, Opens}
 
 -- the list from a place on begins with what stands there
-pub opened : (files : List MemFile) (i : ℕ) (file : MemFile) → i < length files → file ≡ get_or files i file
+pub rest-begins : (files : List MemFile) (i : ℕ) (file : MemFile) → i < length files → file ≡ get_or files i file
     → drop i files ≡ file ∷ drop (i + 1) files
-opened files i file within here =
+rest-begins files i file within here =
     drop-cons files i file within ∙ ap (λ head. head ∷ drop (suc i) files) (sym here) ∙ ap (λ k. file ∷ drop k files) (sym (add-one i))
 
 -- the first of the rest has the name
@@ -33,6 +33,11 @@ bytes-told name (file ∷ rest) =
 -- no source, no bytes
 pub lacks-bytes : (name : List ℕ) (files : List MemFile) → source_of name files ≡ None → bytes_of name (told files) ≡ None
 lacks-bytes name files none = bytes-told name files ∙ ap (option_map (λ source. source.bytes.items)) none
+
+-- a name with a source isn't lacking
+pub has-bytes : (name : List ℕ) (files : List MemFile) (source : MemSource) → source_of name files ≡ Some source
+    → Lacks (Some (told files)) name → ⊥
+has-bytes name files source found lacks = cc (bytes-told name files ∙ ap (option_map (λ s. s.bytes.items)) found, lacks.1, lacks.2)
 
 -- a copy of the source under the name has the name's bytes left
 pub opens-copy : (name : List ℕ) (files : List MemFile) (source copy : MemSource) → source_of name files ≡ Some source

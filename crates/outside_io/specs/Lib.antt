@@ -3,3 +3,4 @@ pub mod Calls
 pub mod Faults
 pub mod Memory
 pub mod Names
+pub mod Opened

@@ -116,6 +116,7 @@ fn world_of(alloc: Global) -> Result<MemWorld, AllocError> {
         files,
         fail: [1].to_vec(alloc)?,
         opens: 0,
+        opened: 0,
         faults: 0,
     })
 }
@@ -160,6 +161,77 @@ fn a_close_counts_a_source_that_failed(rt: HostRuntime) -> Result<(), Fail> {
 }
 
 #[test]
+fn a_world_in_memory_counts_its_open_feeds(rt: HostRuntime) -> Result<(), Fail> {
+    let alloc = rt.alloc();
+    let mut world = world_of(alloc)?;
+    assert_eq!(rt; world.opened, 0);
+    let north = world.open(alloc, "north").ok().ok_or("north")?;
+    assert_eq!(rt; world.opened, 1);
+    assert_eq!(rt; world.open(alloc, "north").err(), Some(OpenFault::Failed));
+    assert_eq!(rt; world.open(alloc, "west").err(), Some(OpenFault::NoSuch));
+    assert_eq!(rt; world.opened, 1);
+    let south = world.open(alloc, "south").ok().ok_or("south")?;
+    assert_eq!(rt; world.opened, 2);
+    world.close(north);
+    assert_eq!(rt; world.opened, 1);
+    world.close(south);
+    assert_eq!(rt; world.opened, 0);
+    Ok(())
+}
+
+#[test]
+fn a_reader_gives_its_bytes_in_pieces(rt: HostRuntime) -> Result<(), Fail> {
+    let bytes: &[u8] = b"abcde";
+    let mut source = ReaderSource {
+        reader: bytes,
+        faults: 0,
+    };
+    let reads: [(usize, &[u8]); 3] = [(3, b"abc"), (2, b"dec"), (0, b"dec")];
+    let mut buf = [0; 3];
+    for (count, got) in reads {
+        assert_eq!(rt; source.read(&mut buf), Ok(count));
+        assert_eq!(rt; buf.as_slice(), got);
+    }
+    assert_eq!(rt; source.faults, 0);
+    Ok(())
+}
+
+#[test]
+fn a_writer_that_is_full_has_failed(rt: HostRuntime) -> Result<(), Fail> {
+    let mut room = [0; 5];
+    let mut sink = WriterSink {
+        writer: room.as_mut_slice(),
+        faults: 0,
+    };
+    let writes: [(&[u8], Result<usize, Failed>, u64); 5] = [
+        (b"abc", Ok(3), 0),
+        (b"defg", Ok(2), 0),
+        (b"", Ok(0), 0),
+        (b"fg", Err(Failed), 1),
+        (b"fg", Err(Failed), 2),
+    ];
+    for (piece, answer, faults) in writes {
+        assert_eq!(rt; sink.write(piece), answer);
+        assert_eq!(rt; sink.faults, faults);
+    }
+    assert_eq!(rt; room.as_slice(), b"abcde".as_slice());
+    Ok(())
+}
+
+#[test]
+fn a_text_is_written_whole_to_a_writer(rt: HostRuntime) -> Result<(), Fail> {
+    let mut sink = WriterSink {
+        writer: Vec::new(rt.alloc()),
+        faults: 0,
+    };
+    assert_eq!(rt; write_whole(&mut sink, b"abc"), Ok(()));
+    assert_eq!(rt; write_whole(&mut sink, b"de"), Ok(()));
+    assert_eq!(rt; sink.writer.as_slice(), b"abcde".as_slice());
+    assert_eq!(rt; sink.faults, 0);
+    Ok(())
+}
+
+#[test]
 fn a_file_is_read_and_a_folder_fails(rt: HostRuntime) -> Result<(), Fail> {
     let alloc = rt.alloc();
     fs::write(&rt, "feed", b"abc")?;
@@ -179,6 +251,44 @@ fn a_file_is_read_and_a_folder_fails(rt: HostRuntime) -> Result<(), Fail> {
     assert_eq!(rt; world.faults, 1);
     assert_eq!(rt; world.open(alloc, "nowhere").err(), Some(OpenFault::Failed));
     assert_eq!(rt; world.faults, 2);
+    Ok(())
+}
+
+#[test]
+fn a_name_that_ends_in_a_space_is_another_file(rt: HostRuntime) -> Result<(), Fail> {
+    let alloc = rt.alloc();
+    fs::write(&rt, "feed", b"without")?;
+    fs::write(&rt, "feed ", b"with")?;
+    let mut world = FileWorld::new(rt);
+    let files: [(&str, &[u8]); 2] = [("feed ", b"with"), ("feed", b"without")];
+    for (name, bytes) in files {
+        let mut file = world.open(alloc, name).ok().ok_or("feed")?;
+        let mut buf = [0; 8];
+        assert_eq!(rt; file.read(&mut buf), Ok(bytes.len()));
+        assert_eq!(rt; &buf[..bytes.len()], bytes);
+        world.close(file);
+    }
+    Ok(())
+}
+
+#[test]
+fn the_open_files_are_counted(rt: HostRuntime) -> Result<(), Fail> {
+    let alloc = rt.alloc();
+    fs::write(&rt, "feed", b"abc")?;
+    let mut world = FileWorld::new(rt);
+    assert_eq!(rt; world.opened, 0);
+    let first = world.open(alloc, "feed").ok().ok_or("feed")?;
+    let second = world.open(alloc, "feed").ok().ok_or("feed")?;
+    assert_eq!(rt; world.opened, 2);
+    assert_eq!(rt; world.open(alloc, "nowhere").err(), Some(OpenFault::Failed));
+    assert_eq!(rt; world.opened, 2);
+    world.close(first);
+    assert_eq!(rt; world.opened, 1);
+    world.close(second);
+    assert_eq!(rt; world.opened, 0);
+    world.opened = u64::MAX;
+    assert_eq!(rt; world.open(alloc, "feed").err(), Some(OpenFault::NoMemory));
+    assert_eq!(rt; (world.opened, world.faults), (u64::MAX, 1));
     Ok(())
 }
 

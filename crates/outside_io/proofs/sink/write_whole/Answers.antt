@@ -8,5 +8,5 @@ pub loop-done-preserved : goal.loop-done-preserved
 loop-done-preserved g c = record {
   within = grind (arith, common_steps, rest_length);
   taken = search (rules, appends-next);
-  later = grind (arith, common_steps);
+  kept = grind (arith, common_steps);
 }
