@@ -2,9 +2,11 @@
 #![tactic(auto)]
 
 ghost use Rattle.std.specs.Prelude.{◌≡◌, ◌<◌};
+ghost use Rattle.std.specs.IoError.{error_kind};
 
-use outside_io::{FileSink, FileWorld, Sinks, Steps};
+use outside_io::{FileSink, FileWorld, Sinks, Steps, is_want_of_memory};
 use replay_cli::replay_top;
+use std::io::ErrorKind;
 use std::marker::Brand;
 use std::process::ExitCode;
 use std::sync::ledger::{Blank, Ledger};
@@ -12,6 +14,9 @@ use std::{env, io};
 
 /// The exit status of words that the system doesn't give as text.
 const OTHER_WORDS: u8 = 2;
+
+/// The exit status where the system is short of memory while the words are taken.
+const WANT_OF_MEMORY: u8 = 6;
 
 fn main(rt: HostRuntime) -> ExitCode {
     ExitCode::from(program::<Brand>(rt, Blank::new(1)))
@@ -26,6 +31,18 @@ fn words(rt: &HostRuntime) -> io::Result<Vec<String>> {
     Ok(words)
 }
 
+/// The exit status where the words couldn't be taken.
+fn status_without_words(error: &io::Error) -> u8
+    ensures wanting { error_kind error.now ≡ ErrorKind.OutOfMemory → result ≡ WANT_OF_MEMORY }
+    ensures other { (error_kind error.now ≡ ErrorKind.OutOfMemory → ⊥) → result ≡ OTHER_WORDS }
+{
+    if is_want_of_memory(error) {
+        WANT_OF_MEMORY
+    } else {
+        OTHER_WORDS
+    }
+}
+
 /// Runs the top call and answers the exit status.
 fn program<L: Ledger>(rt: HostRuntime, blank: Blank) -> u8
     requires name { blank.name ≡ L.name }
@@ -33,8 +50,9 @@ fn program<L: Ledger>(rt: HostRuntime, blank: Blank) -> u8
     requires some { 0 < blank.parts }
 {
     let mut steps = Steps::<L>::new(blank);
-    let Ok(words) = words(&rt) else {
-        return OTHER_WORDS;
+    let words = match words(&rt) {
+        Ok(words) => words,
+        Err(error) => return status_without_words(&error),
     };
     let mut sinks = Sinks {
         out: FileSink::output(&rt),
