@@ -1,6 +1,9 @@
 -- Where a parabola that opens upwards, or a line, is least among the ticks of a look-ahead.
 use Rattle.std.proofs.Common.{◌≡◌, ℤ, pos, negsuc, ◌+ℤ◌, ◌-ℤ◌, ◌*ℤ◌, ◌≤ℤ◌, ◌<ℤ◌, arith}
-use Rattle.std.proofs.lemmas.Int.{ints, by_lt_z}
+use Rattle.std.proofs.lemmas.Int.{ints, by_lt_z, clamps}
+use Rattle.std.specs.Int.{int_min}
+use Rattle.tick_sets.specs.Inequalities.{IsLook}
+use Rattle.tick_sets.specs.Steps.{Reaches}
 use Rattle.tick_sets.specs.Ticks.{IsLeastTick}
 use Rattle.tick_sets.proofs.Products.{times_le, spread, products}
 
@@ -36,16 +39,17 @@ least_where a b l t low start end fell rose = record {
   first = λ s s_low before. falls a b s t low before (fell (omega (arith, ints)));
 }
 
--- there is one least tick
-pub least_tick_unique : (f : ℤ → ℤ) (l s t : ℤ) → IsLeastTick f l s → IsLeastTick f l t → s ≡ t
-least_tick_unique f l s t p q = by_lt_z s t
-    (λ before. let h = q.first s p.not_before before in let k = p.least t q.not_before q.not_after in absurd (omega (arith, ints)))
-    (λ here. by_lt_z t s
-    (λ after. let h = p.first t q.not_before after in let k = q.least s p.not_before p.not_after in absurd (omega (arith, ints)))
-    (λ there. omega (arith, ints)))
-
--- the same from twice the curvature and from how far the first step falls
-pub least_by_step : (a b l twice fall t : ℤ) → twice ≡ pos 2 *ℤ a → fall ≡ negsuc 1 *ℤ b -ℤ a → pos 0 ≤ℤ a → pos 0 ≤ℤ t → t ≤ℤ l → (pos 0 <ℤ t → (twice *ℤ (t -ℤ pos 1)) <ℤ fall) → (t <ℤ l → fall ≤ℤ (twice *ℤ t)) → IsLeastTick (λ t. a *ℤ t *ℤ t +ℤ pos 2 *ℤ b *ℤ t) l t
-least_by_step a b l twice fall t twice_is fall_is low start end before after = least_where a b l t low start end
-    (λ positive. let h = rw twice_is at (before positive) in let parts = simp spread at h in simp spread (omega (arith, products)))
-    (λ inside. let h = rw twice_is at (after inside) in let parts = simp spread at h in simp spread (omega (arith, products)))
+-- where the multiples of twice the curvature reach how far the first step falls, or at the end
+pub least_by_step : (a b l twice fall reached t : ℤ) → IsLook l → twice ≡ pos 2 *ℤ a → fall ≡ negsuc 1 *ℤ b -ℤ a → pos 0 ≤ℤ a → Reaches twice fall l reached → t ≡ int_min reached l → IsLeastTick (λ t. a *ℤ t *ℤ t +ℤ pos 2 *ℤ b *ℤ t) l t
+least_by_step a b l twice fall reached t look twice_is fall_is low reaches t_is = least_where a b l t low (omega (arith, ints, clamps)) (omega (arith, ints, clamps))
+    (λ positive.
+    let before : (twice *ℤ (t -ℤ pos 1)) ≤ℤ (twice *ℤ (reached -ℤ pos 1)) = times_le twice (t -ℤ pos 1) (reached -ℤ pos 1) (omega (arith, ints)) (omega (arith, ints, clamps)) in
+    let fell = reaches.below_before (omega (arith, ints, clamps)) in
+    let parts = simp spread at (rw twice_is at before) in
+    let h = simp spread at (rw twice_is at fell) in
+    simp spread (omega (arith, products)))
+    (λ inside.
+    let same : reached ≡ t = omega (arith, ints, clamps) in
+    let h = rw (same, twice_is) at (reaches.reached (omega (arith, ints, clamps))) in
+    let parts = simp spread at h in
+    simp spread (omega (arith, products)))

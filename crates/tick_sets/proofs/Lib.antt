@@ -3,8 +3,10 @@ pub mod Fits
 pub mod LeastTick
 pub mod Lines
 pub mod Meets
-pub mod Parabolas
+pub mod Moving
+pub mod Newton
 pub mod OddSets
+pub mod Parabolas
 pub mod Products
 pub mod Roots
 pub mod Steps

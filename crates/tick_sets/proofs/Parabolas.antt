@@ -2,15 +2,14 @@
 use Rattle.std.proofs.Common.{◌≡◌, refl, sym, ap, ℕ, zero, suc, ◌+◌, ◌*◌, ◌^◌, ◌≤◌, ◌<◌, ℤ, pos, negsuc, ◌+ℤ◌, ◌-ℤ◌, ◌*ℤ◌, neg_ℤ, ◌≤ℤ◌, ◌<ℤ◌, arith, mul-le-mul}
 use Rattle.std.proofs.lemmas.Int.{ints, by_lt_z}
 use Rattle.std.proofs.lemmas.Nat.{mul-le}
+use Rattle.tick_sets.specs.Inequalities.{parabola_at}
+use Rattle.tick_sets.specs.Steps.{discriminant, IsNearVertex, IsRootBelow, StaysAbove}
 use Rattle.tick_sets.specs.Ticks.{AreTicksWhere}
 use Rattle.tick_sets.specs.declared.Ticks.{Ticks}
 use Rattle.tick_sets.specs.declared.Ticks.TheVariants.{Empty}
 use Rattle.tick_sets.proofs.Lines.{AreAbove, AreBetween}
 use Rattle.tick_sets.proofs.Where.{where_none, where_same}
 use Rattle.tick_sets.proofs.Products.{times_le, times_assoc, triple_is, spread, products}
-
-abbrev pub value_of : ℤ → ℤ → ℤ → ℤ → ℤ
-value_of a b c t = a *ℤ t *ℤ t +ℤ pos 2 *ℤ b *ℤ t +ℤ c
 
 -- ---- squares
 square_low : (x : ℤ) → pos 0 ≤ℤ (x *ℤ x)
@@ -31,14 +30,14 @@ square_far_below (pos n) (suc r) h = absurd (omega (arith, ints))
 square_far_below (negsuc n) r h = let k : r ≤ suc n = omega (arith, ints) in omega (arith, ints, mul-le-mul k k)
 
 -- ---- without a root
-pub above_from_start : (a b c t : ℤ) → pos 0 ≤ℤ a → pos 0 ≤ℤ b → pos 0 ≤ℤ c → pos 0 ≤ℤ t → pos 0 ≤ℤ value_of a b c t
+pub above_from_start : (a b c t : ℤ) → pos 0 ≤ℤ a → pos 0 ≤ℤ b → pos 0 ≤ℤ c → pos 0 ≤ℤ t → pos 0 ≤ℤ parabola_at a b c t
 above_from_start a b c t a_low b_low c_low low =
     let slope = times_le a (pos 0) t a_low low in
     let curve = times_le (a *ℤ t) (pos 0) t (omega (arith, ints)) low in
     let line = times_le (pos 2 *ℤ b) (pos 0) t (omega (arith, ints)) low in
     omega (arith, ints)
 
-pub above_to_end : (a b c l t slope : ℤ) → pos 0 ≤ℤ a → slope ≡ a *ℤ l +ℤ b → slope ≤ℤ pos 0 → pos 0 ≤ℤ ((slope +ℤ b) *ℤ l +ℤ c) → t ≤ℤ l → pos 0 ≤ℤ value_of a b c t
+pub above_to_end : (a b c l t slope : ℤ) → pos 0 ≤ℤ a → slope ≡ a *ℤ l +ℤ b → slope ≤ℤ pos 0 → pos 0 ≤ℤ ((slope +ℤ b) *ℤ l +ℤ c) → t ≤ℤ l → pos 0 ≤ℤ parabola_at a b c t
 above_to_end a b c l t slope low slope_is falls end before =
     let chord : (a *ℤ (l +ℤ t)) ≤ℤ (a *ℤ (l +ℤ l)) = times_le a (l +ℤ t) (l +ℤ l) low (omega (arith, ints)) in
     let parts = simp spread at chord in
@@ -48,11 +47,11 @@ above_to_end a b c l t slope low slope_is falls end before =
     simp spread (omega (arith, products))
 
 -- ---- by the root of the discriminant
-completed : (a b c t u : ℤ) → u ≡ a *ℤ t → a *ℤ value_of a b c t ≡ (u +ℤ b) *ℤ (u +ℤ b) -ℤ (b *ℤ b -ℤ a *ℤ c)
+completed : (a b c t u : ℤ) → u ≡ a *ℤ t → a *ℤ parabola_at a b c t ≡ (u +ℤ b) *ℤ (u +ℤ b) -ℤ discriminant a b c
 completed a b c t u u_is =
     let left : a *ℤ (u *ℤ t) ≡ u *ℤ u = omega (arith, products, ap (λ (z : ℤ). u *ℤ z) u_is, triple_is u a t, triple_is a u t) in
     let middle : a *ℤ (b *ℤ t) ≡ b *ℤ u = omega (arith, products, ap (λ (z : ℤ). b *ℤ z) u_is, triple_is b a t, triple_is a b t) in
-    let start : a *ℤ value_of a b c t ≡ a *ℤ (u *ℤ t +ℤ pos 2 *ℤ (b *ℤ t) +ℤ c) = ap (λ (z : ℤ). a *ℤ z) (rw (← u_is) (ap (λ (z : ℤ). u *ℤ t +ℤ z +ℤ c) (times_assoc (pos 2) b t))) in
+    let start : a *ℤ parabola_at a b c t ≡ a *ℤ (u *ℤ t +ℤ pos 2 *ℤ (b *ℤ t) +ℤ c) = ap (λ (z : ℤ). a *ℤ z) (rw (← u_is) (ap (λ (z : ℤ). u *ℤ t +ℤ z +ℤ c) (times_assoc (pos 2) b t))) in
     rw start (simp spread (omega (arith, products)))
 
 -- the value and a times it are below 0 together
@@ -61,13 +60,6 @@ scaled_below a v up h = let k = times_le a v (negsuc 0) (omega (arith, ints)) (o
 
 below_scaled : (a v : ℤ) → pos 0 <ℤ a → (a *ℤ v) <ℤ pos 0 → v <ℤ pos 0
 below_scaled a v up h = by_lt_z v (pos 0) (λ k. k) (λ k. let l = times_le a (pos 0) v (omega (arith, ints)) k in absurd (omega (arith, ints)))
-
-pub never_below : (a b c t d : ℤ) → pos 0 <ℤ a → d ≡ b *ℤ b -ℤ a *ℤ c → d ≤ℤ pos 0 → value_of a b c t <ℤ pos 0 → ⊥
-never_below a b c t d up d_is low h =
-    let e = completed a b c t (a *ℤ t) refl in
-    let k = scaled_below a (value_of a b c t) up h in
-    let square = square_low (a *ℤ t +ℤ b) in
-    omega (arith, ints)
 
 -- where a t + b is within the root, and only there
 square_within : (x r square : ℤ) → pos 0 ≤ℤ r → (r *ℤ r) <ℤ square → neg_ℤ r ≤ℤ x → x ≤ℤ r → (x *ℤ x) <ℤ square
@@ -81,34 +73,42 @@ within_square x (pos r) square low root h = (
 )
 within_square x (negsuc r) square low root h = absurd (omega (arith, ints))
 
+-- ---- near the vertex
 abbrev pub AreNear : ℤ → ℤ → ℤ → ℤ → Ticks → Type 0
-AreNear a b square l ticks = AreTicksWhere (λ t. ((a *ℤ t +ℤ b) *ℤ (a *ℤ t +ℤ b)) <ℤ square) l ticks
+AreNear a b c l ticks = AreTicksWhere (IsNearVertex a b c) l ticks
 
-pub near_between : (a b square l r step low high : ℤ) (ticks : Ticks) → AreBetween step low high l ticks → step ≡ a → low ≡ neg_ℤ r -ℤ b → high ≡ r -ℤ b → pos 0 ≤ℤ r → (r *ℤ r) <ℤ square → square ≤ℤ ((r +ℤ pos 1) *ℤ (r +ℤ pos 1)) → AreNear a b square l ticks
-near_between a b square l r step low high ticks between step_is low_is high_is r_low root next = where_same (λ t. (low ≤ℤ (a *ℤ t)) × ((a *ℤ t) ≤ℤ high)) _ l ticks
-    (λ t h. square_within (a *ℤ t +ℤ b) r square r_low root (omega (arith, ints, h.0)) (omega (arith, ints, h.1)))
-    (λ t h. let k = within_square (a *ℤ t +ℤ b) r square r_low next h in (omega (arith, ints, k.0), omega (arith, ints, k.1)))
+pub near_between : (a b c l r step low high : ℤ) (ticks : Ticks) → AreBetween step low high l ticks → step ≡ a → low ≡ neg_ℤ r -ℤ b → high ≡ r -ℤ b → IsRootBelow (discriminant a b c) r → AreNear a b c l ticks
+near_between a b c l r step low high ticks between step_is low_is high_is root = where_same (λ t. (low ≤ℤ (a *ℤ t)) × ((a *ℤ t) ≤ℤ high)) _ l ticks
+    (λ t h. square_within (a *ℤ t +ℤ b) r (discriminant a b c) root.low root.below (omega (arith, ints, h.0)) (omega (arith, ints, h.1)))
+    (λ t h. let k = within_square (a *ℤ t +ℤ b) r (discriminant a b c) root.low root.next_not_below h in (omega (arith, ints, k.0), omega (arith, ints, k.1)))
     (rw (sym step_is) between)
 
+-- no square is below 0
+pub near_none : (a b c l : ℤ) → discriminant a b c ≤ℤ pos 0 → AreNear a b c l Empty
+near_none a b c l low = where_none _ l (λ t from to h. let square = square_low (a *ℤ t +ℤ b) in omega (arith, ints))
+
 -- the greatest number whose square is below another
-pub root_under : (n : ℕ) (square : ℤ) (r : ℕ) → pos n ≡ square -ℤ pos 1 → square <ℤ pos (2 ^ 103) → r * r ≤ n → n < (r + 1) * (r + 1) → (pos r <ℤ pos (2 ^ 52)) × ((pos r *ℤ pos r) <ℤ square) × (square ≤ℤ ((pos r +ℤ pos 1) *ℤ (pos r +ℤ pos 1)))
-root_under n square r n_is high root next = (
-  by_lt_z (pos r) (pos (2 ^ 52)) (λ small. small) (λ large. let h : 2 ^ 52 ≤ r = omega (arith, ints) in absurd (omega (arith, ints, mul-le (2 ^ 52) (2 ^ 52) r r h h))),
-  omega (arith, ints),
-  omega (arith, ints),
-)
+pub root_under : (n : ℕ) (square : ℤ) (r : ℕ) → pos n ≡ square -ℤ pos 1 → square <ℤ pos (2 ^ 103) → r * r ≤ n → n < (r + 1) * (r + 1) → IsRootBelow square (pos r)
+root_under n square r n_is high root next = record {
+  low = omega (arith, ints);
+  high = by_lt_z (pos r) (pos (2 ^ 52)) (λ small. small) (λ large. let h : 2 ^ 52 ≤ r = omega (arith, ints) in absurd (omega (arith, ints, mul-le (2 ^ 52) (2 ^ 52) r r h h)));
+  below = omega (arith, ints);
+  next_not_below = omega (arith, ints);
+}
 
 abbrev pub AreBelow : ℤ → ℤ → ℤ → ℤ → Ticks → Type 0
-AreBelow a b c l ticks = AreTicksWhere (λ t. value_of a b c t <ℤ pos 0) l ticks
+AreBelow a b c l ticks = AreTicksWhere (λ t. parabola_at a b c t <ℤ pos 0) l ticks
 
-pub below_none : (a b c l d : ℤ) → pos 0 <ℤ a → d ≡ b *ℤ b -ℤ a *ℤ c → d ≤ℤ pos 0 → AreBelow a b c l Empty
-below_none a b c l d up d_is low = where_none _ l (λ t from to h. never_below a b c t d up d_is low h)
-
-pub below_near : (a b c l d : ℤ) (ticks : Ticks) → AreNear a b d l ticks → pos 0 <ℤ a → d ≡ b *ℤ b -ℤ a *ℤ c → AreBelow a b c l ticks
-below_near a b c l d ticks near up d_is = where_same (λ t. ((a *ℤ t +ℤ b) *ℤ (a *ℤ t +ℤ b)) <ℤ d) _ l ticks
-    (λ t h. let e = completed a b c t (a *ℤ t) refl in below_scaled a (value_of a b c t) up (omega (arith, ints)))
-    (λ t h. let e = completed a b c t (a *ℤ t) refl in let k = scaled_below a (value_of a b c t) up h in omega (arith, ints))
+-- a parabola that bends is below 0 near its vertex, and there alone
+pub below_near : (a b c l : ℤ) (ticks : Ticks) → AreNear a b c l ticks → pos 0 <ℤ a → AreBelow a b c l ticks
+below_near a b c l ticks near up = where_same (IsNearVertex a b c) _ l ticks
+    (λ t h. let e = completed a b c t (a *ℤ t) refl in below_scaled a (parabola_at a b c t) up (omega (arith, ints)))
+    (λ t h. let e = completed a b c t (a *ℤ t) refl in let k = scaled_below a (parabola_at a b c t) up h in omega (arith, ints))
     near
+
+-- one that never comes below 0
+pub below_none : (a b c l : ℤ) → StaysAbove a b c l → AreBelow a b c l Empty
+below_none a b c l stays = where_none _ l (λ t from to below. let above = stays t from to in absurd (omega (arith, ints)))
 
 -- a line is a parabola that doesn't bend
 pub below_line : (a b c l slope start : ℤ) (ticks : Ticks) → AreAbove slope start l ticks → a ≡ pos 0 → slope ≡ negsuc 1 *ℤ b → start ≡ negsuc 0 -ℤ c → AreBelow a b c l ticks

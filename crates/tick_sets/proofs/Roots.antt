@@ -1,123 +1,99 @@
--- Newton's step towards a square root.
-use Rattle.std.proofs.Common.{sym, refl, zero-lt-suc, ◌≡◌, ℕ, zero, suc, ◌+◌, ◌-◌, ◌*◌, ◌/◌, ◌%◌, ◌^◌, ◌<◌, ◌≤◌, ⊎_elim, arith, subst, ap, mul-le-mul_left, mul-le-mul_right, pow_mono, mul-pos, min, mul_comm, pow-suc, two-mul, ◌∙◌}
-use lib.Count.{count_leading_zeros}
-use Rattle.std.proofs.lemmas.Nat.{div_below, div-add-mod', mod_below, leading_length, pow-add, pow_pos, one_shl, shl_whole, mul-le, shr_below, shr_split, le-div}
+-- The root and the least tick, from their definitions: that they are what is sought, and that nothing else is.
+use Rattle.std.proofs.Common.{◌≡◌, ap, sym, ◌∙◌, ℕ, ◌+◌, ◌*◌, ◌<◌, ◌≤◌, zero, suc, refl, arith, nat_lt, cond, Bool, true, false, ⊎_elim, ℤ, pos, ◌+ℤ◌, ◌*ℤ◌, ◌≤ℤ◌, ◌<ℤ◌}
 use Rattle.std.proofs.lemmas.Bool.{cases_lt}
+use Rattle.std.proofs.lemmas.Bool.Decides.{nat_tests}
+use Rattle.std.proofs.lemmas.Int.{ints}
+use Rattle.std.proofs.lemmas.Nat.{mul-le}
+use Rattle.std.specs.Int.RustNames.{unsigned_abs}
+use borrow.Author.Tests.{ltb-true, ltb-false}
+use Rattle.tick_sets.specs.Inequalities.{IsRaised}
+use Rattle.tick_sets.specs.Roots.{root, least_tick_of}
+use Rattle.tick_sets.specs.Ticks.{IsLeastTick}
 
--- the product of two numbers is at most the square of half their sum
-product_near : (x d p : ℕ) → p ≤ x + 2 * d → x * p ≤ (x + d) * (x + d)
-product_near x d p h = omega (arith, mul-le-mul_left x h)
+root_at_most : (n : ℕ) → root n * root n ≤ n
+unfolding root
+root_at_most zero = omega arith
+root_at_most (suc n) = let below = root_at_most n in grind (arith, nat_tests)
 
-pub product_le : (x p z : ℕ) → x + p ≤ 2 * z → x * p ≤ z * z
-product_le x p z h = ⊎_elim
-    (λ below. let e : x + (z - x) ≡ z = omega arith in subst (λ (w : ℕ). x * p ≤ w * w) e (product_near x (z - x) p (omega arith)))
-    (λ above. let e : p + (z - p) ≡ z = omega arith in subst (λ (w : ℕ). x * p ≤ w * w) e (omega (arith, product_near p (z - p) x (omega arith))))
-    (cases_lt x z)
+root_next_above : (n : ℕ) → n < (root n + 1) * (root n + 1)
+unfolding root
+root_next_above zero = omega arith
+root_next_above (suc n) = let above = root_next_above n in grind (arith, nat_tests)
 
--- one step of Newton's is never below the root rounded down
-pub step_above : (n x : ℕ) → 0 < x → n < ((x + n / x) / 2 + 1) * ((x + n / x) / 2 + 1)
-step_above n x h =
-    let near : x * (n / x + 1) ≤ ((x + n / x) / 2 + 1) * ((x + n / x) / 2 + 1) = product_le x (n / x + 1) ((x + n / x) / 2 + 1) (omega arith) in
-    omega (arith, div-add-mod' n x, mod_below n x h)
+-- no other number is the root
+pub root_is : (n r : ℕ) → r * r ≤ n → n < (r + 1) * (r + 1) → r ≡ root n
+root_is n r below above =
+    let at_most = root_at_most n in
+    let next_above = root_next_above n in
+    ⊎_elim
+    (λ less. let squares = mul-le (r + 1) (r + 1) (root n) (root n) (omega arith) (omega arith) in absurd (omega arith))
+    (λ no_less. ⊎_elim
+    (λ more. let squares = mul-le (root n + 1) (root n + 1) r r (omega arith) (omega arith) in absurd (omega arith))
+    (λ no_more. omega arith)
+    (cases_lt (root n) r))
+    (cases_lt r (root n))
 
--- and it falls as long as the number is above the root
-pub step_below : (n x : ℕ) → n < x * x → (0 < x) × ((x + n / x) / 2 < x)
-step_below n zero h = absurd (omega arith)
-step_below n (suc x) h = (omega arith, omega (arith, div_below n (suc x) (suc x) (omega arith) h))
+-- the least tick is one of the ticks
+least_within : (f : ℕ → ℕ) (last : ℕ) → least_tick_of f last ≤ last
+unfolding least_tick_of
+least_within f zero = omega arith
+least_within f (suc last) = let within = least_within f last in grind (arith, nat_tests)
 
--- both, as the loops ask for them
-pub step_keeps : (n x bound : ℕ) → n < x * x → x < bound → (n < ((x + n / x) / 2 + 1) * ((x + n / x) / 2 + 1)) × ((x + n / x) / 2 < bound)
-step_keeps n x bound h b = let below = step_below n x h in (step_above n x below.0, omega (arith, below.1))
+-- what holds at both of two numbers holds at the one that a test picks
+picked : (b : Bool) (x y : ℕ) (P : ℕ → Type 0) → (b ≡ true → P x) → (b ≡ false → P y) → P (cond b x y)
+picked true x y P at_true at_false = at_true refl
+picked false x y P at_true at_false = at_false refl
 
--- a power of two whose square covers the word, and the step from it
-pub word_half : (n h : ℕ) → n < 2 ^ 64 → h ≡ (65 - count_leading_zeros 64 n) / 2 → (h ≤ 32) × (n < 2 ^ h * 2 ^ h)
-word_half n h fits is =
-    let (m, whole, above, _) = leading_length 64 n fits in
-    let half : m ≤ h + h = omega arith in
-    (omega arith, omega (arith, pow_mono half, pow-add 2 h h))
+-- nowhere is f less than there
+least_least : (f : ℕ → ℕ) (last s : ℕ) → s ≤ last → f (least_tick_of f last) ≤ f s
+unfolding least_tick_of
+least_least f zero s before = let same : s ≡ zero = omega arith in rw same (omega arith)
+least_least f (suc last) s before =
+    picked (nat_lt (f (suc last)) (f (least_tick_of f last))) (suc last) (least_tick_of f last) (λ t. f t ≤ f s)
+    (λ less. ⊎_elim
+    (λ earlier. let least = least_least f last s (omega arith) in let lower = ltb-true _ _ less in omega arith)
+    (λ here. let same : s ≡ suc last = (let after : suc last ≤ s = here in omega arith) in rw same (omega arith))
+    (cases_lt s (suc last)))
+    (λ no_less. ⊎_elim
+    (λ earlier. least_least f last s (omega arith))
+    (λ here. let same : s ≡ suc last = (let after : suc last ≤ s = here in omega arith) in let higher = ltb-false _ _ no_less in rw same (omega arith))
+    (cases_lt s (suc last)))
 
-pub word_start : (n h : ℕ) → n < 2 ^ 64 → h ≡ (65 - count_leading_zeros 64 n) / 2 → (n < ((1 * 2 ^ h % 2 ^ 64 + n / 2 ^ h) / 2 + 1) * ((1 * 2 ^ h % 2 ^ 64 + n / 2 ^ h) / 2 + 1)) × ((1 * 2 ^ h % 2 ^ 64 + n / 2 ^ h) / 2 < 2 ^ 32)
-word_start n h fits is =
-    let (small, covers) = word_half n h fits is in
-    let power : 1 * 2 ^ h % 2 ^ 64 ≡ 2 ^ h = one_shl h 64 (omega arith) in
-    let below : n / 2 ^ h < 2 ^ h = div_below n (2 ^ h) (2 ^ h) (pow_pos h) covers in
-    let top : 2 ^ h ≤ 2 ^ 32 = pow_mono small in
-    rw power (step_above n (2 ^ h) (pow_pos h), omega arith)
+-- before it f is greater
+least_first : (f : ℕ → ℕ) (last s : ℕ) → s < least_tick_of f last → f (least_tick_of f last) < f s
+unfolding least_tick_of
+least_first f zero s before = absurd (omega arith)
+least_first f (suc last) s before =
+    picked (nat_lt (f (suc last)) (f (least_tick_of f last))) (suc last) (least_tick_of f last) (λ t. s < t → f t < f s)
+    (λ less earlier. let least = least_least f last s (omega arith) in let lower = ltb-true _ _ less in omega arith)
+    (λ no_less earlier. least_first f last s earlier)
+    before
 
-pub word_sum_fits : (n h : ℕ) → n < 2 ^ 64 → h ≡ (65 - count_leading_zeros 64 n) / 2 → 1 * 2 ^ h % 2 ^ 64 + n / 2 ^ h < 2 ^ 64
-word_sum_fits n h fits is =
-    let (small, covers) = word_half n h fits is in
-    let power : 1 * 2 ^ h % 2 ^ 64 ≡ 2 ^ h = one_shl h 64 (omega arith) in
-    let below : n / 2 ^ h < 2 ^ h = div_below n (2 ^ h) (2 ^ h) (pow_pos h) covers in
-    let top : 2 ^ h ≤ 2 ^ 32 = pow_mono small in
-    rw power (omega arith)
+-- no other tick is
+least_tick_is : (f : ℕ → ℕ) (last t : ℕ) → t ≤ last → ((s : ℕ) → s ≤ last → f t ≤ f s) → ((s : ℕ) → s < t → f t < f s) → t ≡ least_tick_of f last
+least_tick_is f last t within least first =
+    ⊎_elim
+    (λ before. absurd (let greater = least_first f last t before in let no_less = least (least_tick_of f last) (least_within f last) in omega arith))
+    (λ not_before. ⊎_elim
+    (λ after. absurd (let greater = first (least_tick_of f last) after in let no_less = least_least f last t within in omega arith))
+    (λ not_after. omega arith)
+    (cases_lt (least_tick_of f last) t))
+    (cases_lt t (least_tick_of f last))
 
--- what a shift by an even count leaves of a number with more than 64 bits: a word that is not 0
-pub record LeadingShift (n h : ℕ) : Type 0 where
-  pub zeros : count_leading_zeros 128 n ≤ 65
-  pub some : 1 ≤ h
-  pub few : h ≤ 32
-  pub word : n / 2 ^ (2 * h) < 2 ^ 64
-  pub leading : 1 ≤ n / 2 ^ (2 * h)
-
-pub leading_shift : (n h : ℕ) → n < 2 ^ 128 → 2 ^ 64 ≤ n → h ≡ (65 - count_leading_zeros 128 n) / 2 → LeadingShift n h
-leading_shift n h fits large is =
-    let (m, whole, above, _) = leading_length 128 n fits in
-    let long : 64 < m = ⊎_elim (λ l. l) (λ short. let small : 2 ^ m ≤ 2 ^ 64 = pow_mono short in absurd (omega arith)) (cases_lt 64 m) in
-    let reach : m ≤ 64 + 2 * h = omega arith in
-    let few : 2 * h ≤ 64 = omega arith in
-    let power : 2 ^ (2 * h) ≤ 2 ^ 64 = pow_mono few in
-    record {
-      zeros = omega arith;
-      some = omega arith;
-      few = omega arith;
-      word = shr_below n 64 (2 * h) (omega (arith, pow_mono reach));
-      leading = le-div 1 n (2 ^ (2 * h)) (pow_pos (2 * h)) (omega arith);
-    }
-
--- the root of what a shift leaves, one higher and shifted back, is above the root
-pub start_above : (n h s : ℕ) → n / 2 ^ (2 * h) < (s + 1) * (s + 1) → n < ((s + 1) * 2 ^ h) * ((s + 1) * 2 ^ h)
-start_above n h s lead =
-    let e : 2 ^ (2 * h) ≡ 2 ^ h * 2 ^ h = ap (λ (k : ℕ). 2 ^ k) (two-mul h) ∙ pow-add 2 h h in
-    let more : (n / 2 ^ (2 * h) + 1) * 2 ^ (2 * h) ≤ (s + 1) * (s + 1) * 2 ^ (2 * h) = mul-le-mul_right (2 ^ (2 * h)) (omega arith) in
-    let covers : n < (s + 1) * (s + 1) * 2 ^ (2 * h) = omega (arith, shr_split n (2 * h), mod_below n (2 ^ (2 * h)) (pow_pos (2 * h))) in
-    omega (arith, rw e at covers)
-
--- what follows the root of the leading bits, for the root of the whole: H is half of 2 ^ h, and low what is shifted out
-lower_part : (n s r q H : ℕ) → 0 < s → n < (s * s + r + 1) * (2 * H * (2 * H)) → q ≡ (r + 1) * H / s → n < (s * (2 * H) + q + 1) * (s * (2 * H) + q + 1)
-lower_part n s r q H positive covers q_is =
-    let above : (r + 1) * H < s * (q + 1) = rw q_is (omega (arith, div-add-mod' ((r + 1) * H) s, mod_below ((r + 1) * H) s positive)) in
-    let scaled : ((r + 1) * H + 1) * (4 * H) ≤ s * (q + 1) * (4 * H) = mul-le-mul_right (4 * H) (omega arith) in
-    omega arith
-
--- the lesser of two numbers that are both not below the root
-lesser_above : (n a b m : ℕ) → n < (a + 1) * (a + 1) → n < (b + 1) * (b + 1) → m ≡ min a b → n < (m + 1) * (m + 1)
-lesser_above n a b m by_a by_b m_is = ⊎_elim
-    (λ less. let e : m ≡ a = omega arith in rw e by_a)
-    (λ more. let e : m ≡ b = omega arith in rw e by_b)
-    (cases_lt a b)
-
-positive_root : (n s : ℕ) → 1 ≤ n → n < (s + 1) * (s + 1) → 0 < s
-positive_root n zero some next = absurd (omega arith)
-positive_root n (suc s) some next = omega arith
-
-pub wide_start : (n h s m : ℕ) → 1 ≤ h → h ≤ 32 → 1 ≤ n / 2 ^ (2 * h) → s < 2 ^ 32 → s * s ≤ n / 2 ^ (2 * h) → n / 2 ^ (2 * h) < (s + 1) * (s + 1) → m ≡ min ((s * 2 ^ h) % 2 ^ 128 + ((n / 2 ^ (2 * h) - s * s + 1) * 2 ^ (h - 1)) % 2 ^ 64 / s) (((s + 1) * 2 ^ h) % 2 ^ 128 - 1) → (n < (m + 1) * (m + 1)) × (m < 2 ^ 64)
-wide_start n h s m some small leading narrow low high m_is =
-    let positive : 0 < s = positive_root (n / 2 ^ (2 * h)) s leading high in
-    let H : ℕ = 2 ^ (h - 1) in
-    let r : ℕ = n / 2 ^ (2 * h) - s * s in
-    let q : ℕ = (r + 1) * H / s in
-    let back : suc (h - 1) ≡ h = omega arith in
-    let twice : 2 ^ h ≡ 2 * H = ap (λ (k : ℕ). 2 ^ k) (sym back) ∙ pow-suc 2 (h - 1) ∙ mul_comm (2 ^ (h - 1)) 2 in
-    let square : 2 ^ (2 * h) ≡ 2 * H * (2 * H) = ap (λ (k : ℕ). 2 ^ k) (two-mul h) ∙ pow-add 2 h h ∙ ap (λ (k : ℕ). k * k) twice in
-    let whole_high : ((s + 1) * 2 ^ h) % 2 ^ 128 ≡ (s + 1) * 2 ^ h = shl_whole (s + 1) 33 h 128 (omega arith) (omega arith) in
-    let whole_low : (s * 2 ^ h) % 2 ^ 128 ≡ s * 2 ^ h = shl_whole s 32 h 128 narrow (omega arith) in
-    let whole_rest : ((r + 1) * H) % 2 ^ 64 ≡ (r + 1) * H = shl_whole (r + 1) 33 (h - 1) 64 (omega arith) (omega arith) in
-    let m_plain : m ≡ min (s * 2 ^ h + q) ((s + 1) * 2 ^ h - 1) = m_is ∙ rw (whole_high, whole_low, whole_rest) refl in
-    let covers : n < (n / 2 ^ (2 * h) + 1) * 2 ^ (2 * h) = omega (arith, shr_split n (2 * h), mod_below n (2 ^ (2 * h)) (pow_pos (2 * h))) in
-    let parts : n / 2 ^ (2 * h) + 1 ≡ s * s + r + 1 = omega arith in
-    let by_division : n < (s * (2 * H) + q + 1) * (s * (2 * H) + q + 1) = (let P : ℕ → Type 0 = λ k. n < (s * s + r + 1) * k in lower_part n s r q H positive (subst P square (rw parts at covers)) refl) in
-    let by_next : n < ((s + 1) * 2 ^ h) * ((s + 1) * 2 ^ h) = start_above n h s high in
-    let full : (s + 1) * 2 ^ h - 1 + 1 ≡ (s + 1) * 2 ^ h = omega (arith, mul-pos (zero-lt-suc s) (pow_pos h)) in
-    let top : (s + 1) * 2 ^ h ≤ 2 ^ 32 * 2 ^ 32 = mul-le (s + 1) (2 ^ h) (2 ^ 32) (2 ^ 32) (omega arith) (pow_mono small) in
-    (lesser_above n (s * 2 ^ h + q) ((s + 1) * 2 ^ h - 1) m (rw twice by_division) (rw full by_next) m_plain, omega arith)
+-- the least tick of a parabola is that of numbers that are the parabola, raised by one number
+pub least_raised : (a b l tick : ℤ) (f : ℕ → ℕ) → IsRaised f a b l → IsLeastTick (λ t. a *ℤ t *ℤ t +ℤ pos 2 *ℤ b *ℤ t) l tick → tick ≡ pos (least_tick_of f (unsigned_abs l))
+least_raised a b l tick f raised least =
+    let value : ℤ → ℤ = λ t. a *ℤ t *ℤ t +ℤ pos 2 *ℤ b *ℤ t in
+    let begun : tick ≡ pos (unsigned_abs tick) = (let low = least.not_before in omega (arith, ints)) in
+    let within : unsigned_abs tick ≤ unsigned_abs l = (let low = least.not_before in let high = least.not_after in omega (arith, ints)) in
+    let inside : (t : ℕ) → t ≤ unsigned_abs l → pos t ≤ℤ l = λ t before. (let low = least.not_before in let high = least.not_after in omega (arith, ints)) in
+    let here : pos (f (unsigned_abs tick)) ≡ value tick +ℤ raised.by = raised.at_each (unsigned_abs tick) (inside (unsigned_abs tick) within) ∙ ap (λ t. value t +ℤ raised.by) (sym begun) in
+    begun ∙ ap pos (least_tick_is f (unsigned_abs l) (unsigned_abs tick) within
+    (λ s before.
+    let there = raised.at_each s (inside s before) in
+    let no_less : value tick ≤ℤ value (pos s) = least.least (pos s) (omega (arith, ints)) (inside s before) in
+    omega (arith, ints))
+    (λ s before.
+    let there = raised.at_each s (inside s (omega arith)) in
+    let less : value tick <ℤ value (pos s) = least.first (pos s) (omega (arith, ints)) (omega (arith, ints)) in
+    omega (arith, ints)))

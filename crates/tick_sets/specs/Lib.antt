@@ -1,2 +1,6 @@
 pub mod Ends
+pub mod Inequalities
+pub mod Plane
+pub mod Roots
+pub mod Steps
 pub mod Ticks

@@ -1,8 +1,8 @@
-// At which ticks of a look-ahead an inequality holds, in whole numbers and without a walk over the
-// ticks. A tick is 1/128 s.
+// At which ticks of a look-ahead an inequality holds, in whole numbers. A tick is 1/128 s.
 #![tactic(auto)]
 
 mod inequality;
+pub mod laws;
 mod parity;
 mod root;
 mod spans;

@@ -1,4 +1,4 @@
-ghost use Rattle.std.specs.Prelude.{ℤ, ◌≤ℤ◌, IfOk, OnOk, IfSome, IfNone, IsSorted};
+ghost use Rattle.std.specs.Prelude.{ℤ, ◌≤ℤ◌, IfOk, OnOk, OnErr, IfSome, IfNone, IsSorted};
 ghost use Rattle.std.specs.Ordering.{int_cmp};
 ghost use Rattle.tick_sets.specs.declared.Ticks.TheVariants.{Span};
 ghost use Rattle.tick_sets.specs.Ends.{AddsEnds, AreEndsOf, IsAfterOddEnds};
@@ -12,6 +12,8 @@ use std::alloc::{AllocError, Global};
 pub fn odd_first(alloc: Global, sets: &[Ticks], within: Ticks) -> Result<Option<i64>, AllocError>
     ensures found { IfOk result (λ answer. IfSome answer (IsFirstTick (IsInOddNumber sets.now) within)) }
     ensures none { IfOk result (λ answer. IfNone answer ((t : ℤ) → Has within t → ¬ IsInOddNumber sets.now t)) }
+    // Want of memory is answered only where `within` has a tick.
+    ensures memory { OnErr result ((t : ℤ) × Has within t) }
 {
     match within {
         Ticks::Span { first, last } if first <= last => {

@@ -1,15 +1,16 @@
 ghost use Rattle.std.specs.Prelude.{◌≡◌, ℕ, ◌+◌, ◌*◌, ◌^◌, ◌<◌, ◌≤◌};
+ghost use Rattle.tick_sets.specs.Roots.{root};
 
 /// The square root of `n`, rounded down.
 ///
-/// `leading` is the 64 bits or so that a shift by `2*half` leaves, and `high` their root. What they are
-/// above its square, shifted back and divided by twice `high`, gives the lower part of the whole root,
-/// so near that nearly always no step down follows. That is one division of a word, and none of 128
-/// bits.
+/// `leading` is what a shift by `2*half` leaves of `n`, and `high` its root. What `leading` is above the
+/// square of `high`, shifted back and divided by twice `high`, gives the lower part of the whole root, or
+/// more than it; the steps down take away what is too much.
 pub fn isqrt(n: u128) -> u128
     ensures square_le { result * result ≤ n }
     ensures next_square_gt { n < (result + 1) * (result + 1) }
     ensures only { (r : ℕ) → r * r ≤ n → n < (r + 1) * (r + 1) → result ≡ r }
+    ensures root { result ≡ root n }
     ensures bound { result < 2 ^ 64 }
 {
     if n < 0x1_0000_0000_0000_0000 {

@@ -1,19 +1,19 @@
-use Rattle.std.proofs.Common.{rules, ◌^◌, ◌*ℤ◌, arith, lit<, w64, SFits}
-use Rattle.std.proofs.lemmas.Int.{ints, to_z-of_z, by_lt_z, fits_signed_mul}
-use Rattle.tick_sets.proofs.Products.{times_le}
+use Rattle.std.proofs.Common.{arith, rules, w64, SFits}
+use Rattle.std.proofs.lemmas.Int.{ints, to_z-of_z}
+use Rattle.tick_sets.proofs.Steps.{product_is, stays_until, stays_whole}
 use Rattle.tick_sets.proofs.inequality.last_within.Goals as goal
 
-pub returns-else-step-l-clause-not_after : goal.returns-else-step-l-clause-not_after
-returns-else-step-l-clause-not_after c =
+pub returns-then-step-l : goal.returns-then-step-l
+returns-then-step-l c =
+    let fits_bound : SFits w64 c.args.bound = c.ranges.bound in
+    let inside = rw (product_is c.args.step c.args.l c.requires c.ranges.step c.ranges.l) at c.if-step-l.true in
+    stays_whole c.args.step c.args.bound c.args.l _ c.requires (omega (arith, ints)) (omega (arith, ints))
+
+pub returns-else-bound-lt0 : goal.returns-else-bound-lt0
+returns-else-bound-lt0 c =
     let fits_step : SFits w64 c.args.step = c.ranges.step in
     let fits_bound : SFits w64 c.args.bound = c.ranges.bound in
-    let fits_l : SFits w64 c.args.l = c.ranges.l in
-    let fits_product : SFits w64 (c.args.step *ℤ c.args.l) =
-    fits_signed_mul w64 c.args.step c.args.l (2 ^ 35) (2 ^ 16) (omega (arith, ints)) (omega (arith, ints)) (lit< tt) in
     let fits_result : SFits w64 c.quotient.result = search rules in
-    let beyond = simp to_z-of_z at c.if-step-l.false in
-    let at_most = simp to_z-of_z at c.quotient.ensures.at_most in
-    simp to_z-of_z
-    (by_lt_z c.args.l c.quotient.result
-    (λ after. let h = times_le c.args.step c.args.l c.quotient.result (omega (arith, ints)) (omega (arith, ints)) in absurd (omega (arith, ints)))
-    (λ before. before))
+    let beyond = rw (product_is c.args.step c.args.l c.requires c.ranges.step c.ranges.l) at c.if-step-l.false in
+    simp to_z-of_z (stays_until c.args.step c.args.bound c.args.l _ _ c.quotient.result c.requires
+    (omega (arith, ints)) (omega (arith, ints)) c.quotient.ensures.quotient (omega (arith, ints)))

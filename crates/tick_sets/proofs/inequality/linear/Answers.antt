@@ -1,8 +1,29 @@
 use Rattle.std.proofs.Common.{rules, arith, w64, SFits}
 use Rattle.std.proofs.lemmas.Int.{ints, to_z-of_z}
-use Rattle.tick_sets.proofs.Lines.{above_all, above_until, above_from, above_none}
+use Rattle.tick_sets.proofs.Lines.{above_all, above_until, above_from, above_none, falls_before, rises_before}
 use Rattle.tick_sets.proofs.inequality.linear.Goals as goal
 use mir.Syntax.{w128}
+
+pub tick_quotient-requires : goal.tick_quotient-requires
+tick_quotient-requires c =
+    let fits_a : SFits w128 c.args.a = c.ranges.a in
+    let fits_b : SFits w128 c.args.b = c.ranges.b in
+    let fits_l : SFits w64 c.args.l = c.ranges.l in
+    let fits_end : SFits w128 c.value_at-at_end.result = search rules in
+    let end_is = simp to_z-of_z at c.value_at-at_end.ensures in
+    rw (to_z-of_z w64 c.args.l fits_l) (falls_before c.args.a c.args.b c.args.l _ _ (omega (arith, ints)) (omega (arith, ints)) c.requires.look.low (omega (arith, ints)) (omega (arith, ints)))
+
+pub tick_quotient-requires-then-at_end-ge0-2 : goal.tick_quotient-requires-then-at_end-ge0-2
+tick_quotient-requires-then-at_end-ge0-2 c =
+    let fits_a : SFits w128 c.args.a = c.ranges.a in
+    let fits_b : SFits w128 c.args.b = c.ranges.b in
+    let fits_l : SFits w64 c.args.l = c.ranges.l in
+    let fits_end : SFits w128 c.value_at-at_end.result = search rules in
+    let end_is = simp to_z-of_z at c.value_at-at_end.ensures in
+    rw (to_z-of_z w64 c.args.l fits_l) (rises_before c.args.a c.args.b c.args.l _ _ (omega (arith, ints)) (omega (arith, ints)) c.requires.look.low (omega (arith, ints)) (omega (arith, ints)))
+
+pub overflow_add-tick_quotient : goal.overflow_add-tick_quotient
+overflow_add-tick_quotient c = omega (arith, ints)
 
 pub returns-then-at_end-ge0 : goal.returns-then-at_end-ge0
 returns-then-at_end-ge0 c =
@@ -24,8 +45,8 @@ returns-else-at_end-ge0 c =
     above_until c.args.a c.args.b c.args.l _ _ _ _ c.tick_quotient.result c.span-else-at_end-ge0.result
     c.span-else-at_end-ge0.ensures.members c.span-else-at_end-ge0.ensures.proper
     (omega (arith, ints)) (omega (arith, ints)) (omega (arith, ints)) (omega (arith, ints))
-    c.requires.l_low (omega (arith, ints)) (omega (arith, ints))
-    c.tick_quotient.ensures.not_negative (omega (arith, ints)) c.tick_quotient.ensures.at_most c.tick_quotient.ensures.next_above
+    c.requires.look.low (omega (arith, ints)) (omega (arith, ints))
+    c.tick_quotient.ensures.quotient (omega (arith, ints))
 
 pub returns-then-at_end-ge0-2 : goal.returns-then-at_end-ge0-2
 returns-then-at_end-ge0-2 c =
@@ -37,9 +58,8 @@ returns-then-at_end-ge0-2 c =
     above_from c.args.a c.args.b c.args.l _ _ _ _ c.tick_quotient-then-at_end-ge0-2.result c.span-then-at_end-ge0-2.result
     c.span-then-at_end-ge0-2.ensures.members c.span-then-at_end-ge0-2.ensures.proper
     (omega (arith, ints)) (omega (arith, ints)) (omega (arith, ints)) (omega (arith, ints))
-    c.requires.l_low (omega (arith, ints)) (omega (arith, ints))
-    c.tick_quotient-then-at_end-ge0-2.ensures.not_negative (omega (arith, ints))
-    c.tick_quotient-then-at_end-ge0-2.ensures.at_most c.tick_quotient-then-at_end-ge0-2.ensures.next_above
+    c.requires.look.low (omega (arith, ints)) (omega (arith, ints))
+    c.tick_quotient-then-at_end-ge0-2.ensures.quotient (omega (arith, ints))
 
 pub returns-else-at_end-ge0-2 : goal.returns-else-at_end-ge0-2
 returns-else-at_end-ge0-2 c =

@@ -10,7 +10,7 @@ overflow_add-result c =
     let fits_b : SFits w128 c.args.b = c.ranges.b in
     let fits_l : SFits w64 c.args.l = c.ranges.l in
     let wide_l : SFits w128 c.args.l = omega (arith, ints) in
-    let fits : LineFits c.args.a c.args.b c.args.l = line_fits c.args.a c.args.b c.args.l c.requires.a_low c.requires.a_high c.requires.b_low c.requires.b_high c.requires.l_low c.requires.l_high in
+    let fits : LineFits c.args.a c.args.b c.args.l = line_fits c.args.a c.args.b c.args.l c.requires.line c.requires.look in
     let product = fits.product in
     simp to_z-of_z fits.whole
 
@@ -20,7 +20,7 @@ returns c =
     let fits_b : SFits w128 c.args.b = c.ranges.b in
     let fits_l : SFits w64 c.args.l = c.ranges.l in
     let wide_l : SFits w128 c.args.l = omega (arith, ints) in
-    let fits : LineFits c.args.a c.args.b c.args.l = line_fits c.args.a c.args.b c.args.l c.requires.a_low c.requires.a_high c.requires.b_low c.requires.b_high c.requires.l_low c.requires.l_high in
+    let fits : LineFits c.args.a c.args.b c.args.l = line_fits c.args.a c.args.b c.args.l c.requires.line c.requires.look in
     let product = fits.product in
     let whole = fits.whole in
     simp to_z-of_z

@@ -1,6 +1,7 @@
 use Rattle.std.proofs.Common.{refl, ◌-◌, ◌/◌}
 use lib.Count.{count_leading_zeros}
-use Rattle.tick_sets.proofs.Roots.{leading_shift, wide_start}
+use Rattle.tick_sets.proofs.Roots.{root_is}
+use Rattle.tick_sets.proofs.Newton.{leading_shift, wide_start}
 use Rattle.tick_sets.proofs.root.isqrt.Goals as goal
 
 pub overflow_sub-half : goal.overflow_sub-half
@@ -16,3 +17,10 @@ loop-root-init c =
     wide_start c.args.n _ c.word_root-high.result c.min-root.result
     shift.some shift.few shift.leading c.word_root-high.ensures.bound
     c.word_root-high.ensures.square_le c.word_root-high.ensures.next_square_gt c.min-root.ensures
+
+pub returns-then-n-lt18446744073709551616-clause-root : goal.returns-then-n-lt18446744073709551616-clause-root
+returns-then-n-lt18446744073709551616-clause-root c =
+    root_is c.args.n c.word_root.result c.word_root.ensures.square_le c.word_root.ensures.next_square_gt
+
+pub returns-clause-root : goal.returns-clause-root
+returns-clause-root c = root_is c.args.n c.loop-root.root c.loop-root-test.false c.loop-root.invariant.0

@@ -1,5 +1,5 @@
 use Rattle.std.proofs.Common.{refl}
-use Rattle.tick_sets.proofs.Roots.{word_sum_fits, word_start, step_keeps}
+use Rattle.tick_sets.proofs.Newton.{word_sum_fits, word_start, step_keeps}
 use Rattle.tick_sets.proofs.root.word_root.Goals as goal
 
 pub overflow_add-root : goal.overflow_add-root
