@@ -1,5 +1,5 @@
 -- Laws of block framing: what the front of a feed decides, whatever follows it.
-use Rattle.std.proofs.Common.{◌≡◌, ℕ, zero, suc, ◌+◌, ◌-◌, ◌≤◌, ◌<◌, Bool, true, false, cond, nat_lt, List, [], ◌∷◌, ◌++◌, length, take, drop, refl, sym, ◌∙◌, ap, subst, append_assoc, append-nil, arith, length-append, length-drop}
+use Rattle.std.proofs.Common.{◌≡◌, ◌≢◌, ℕ, zero, suc, ◌+◌, ◌-◌, ◌≤◌, ◌<◌, Bool, true, false, cond, nat_lt, List, [], ◌∷◌, ◌++◌, length, take, drop, refl, sym, ◌∙◌, ap, subst, append_assoc, append-nil, arith, length-append, length-drop}
 use Rattle.std.proofs.lemmas.Bool.{and_parts, and_from, leb-true, le-leb, ltb-true, lt-leb, and_left}
 use Rattle.std.specs.declared.option.Option.{Option}
 use Rattle.std.specs.declared.option.Option.TheVariants.{Some, None}
@@ -7,18 +7,19 @@ use Rattle.asterix_blocks.specs.declared.blocks.End.{End}
 use Rattle.asterix_blocks.specs.declared.blocks.End.TheVariants.{Clean, Truncated, BadLength}
 use Rattle.std.proofs.lemmas.List.{drop-append-le, drop-drop, length-take, take-append-le, take_rest}
 use Rattle.asterix_blocks.specs.declared.blocks.Block.{Block}
-use Rattle.asterix_blocks.specs.Framing.{begins_whole, declared_length, first_block, end_at, Framing, behind, framing_within, framing_from, framing, header_length}
+use Rattle.asterix_fields.specs.declared.sizes.TheConstants.{HEADER_LENGTH}
+use Rattle.asterix_blocks.specs.Framing.{begins_whole, declared_length, first_block, end_at, Framing, behind, framing_within, framing_from, framing}
 use Rattle.asterix_blocks.specs.Held.{Held}
-use Rattle.asterix_blocks.specs.Cutting.{coming, Cuts, Gives}
+use Rattle.asterix_blocks.specs.Cutting.{coming, held_blocks, Cuts, Gives}
 
 -- the bounds of a whole block
-pub whole_bounds : (octets : List ℕ) → begins_whole octets ≡ true → (header_length ≤ declared_length octets) × (declared_length octets ≤ length octets)
+pub whole_bounds : (octets : List ℕ) → begins_whole octets ≡ true → (HEADER_LENGTH ≤ declared_length octets) × (declared_length octets ≤ length octets)
 whole_bounds octets h =
     let parts = and_parts _ _ h in
     (leb-true _ _ parts.0, leb-true _ _ parts.1)
 
 -- within those bounds a whole block stands at the front
-pub whole_within : (octets : List ℕ) → header_length ≤ declared_length octets → declared_length octets ≤ length octets → begins_whole octets ≡ true
+pub whole_within : (octets : List ℕ) → HEADER_LENGTH ≤ declared_length octets → declared_length octets ≤ length octets → begins_whole octets ≡ true
 whole_within octets low high = and_from _ _ (le-leb _ _ low) (le-leb _ _ high)
 
 -- few octets hold no block
@@ -132,7 +133,7 @@ coming-step offset octets more h =
     ∙ ap (λ z. behind (first_block offset octets ∷ []) (framing_from (offset + declared_length octets) z)) same
 
 -- how long the body of a whole block is
-pub length-body : (offset : ℕ) (octets : List ℕ) → begins_whole octets ≡ true → header_length + length (first_block offset octets).body ≡ declared_length octets
+pub length-body : (offset : ℕ) (octets : List ℕ) → begins_whole octets ≡ true → HEADER_LENGTH + length (first_block offset octets).body ≡ declared_length octets
 length-body offset octets h =
     let bounds = whole_bounds octets h in
     omega (arith, length-take (declared_length octets - 3) (drop 3 octets), length-drop 3 octets)
@@ -197,6 +198,16 @@ coming-none held offset given octets part found first view rest h e =
     ap (λ (z : Held). (coming z []).blocks) (sym view)
     ∙ ap (λ z. (framing_from offset z).blocks) (append-nil (drop given octets))
     ∙ ap (λ (f : Framing). f.blocks) (framing_from-ended offset (drop given octets) none')
+
+-- where a whole block is held one comes
+pub coming-some : (held : Held) (offset given : ℕ) (octets part : List ℕ) → record { offset = offset; octets = drop given octets } ≡ held → part ≡ drop given octets → begins_whole part ≡ true → (coming held []).blocks ≢ []
+coming-some held offset given octets part view rest whole = λ none.
+    let left : List ℕ = drop given octets in
+    let whole' : begins_whole left ≡ true = ap begins_whole (sym rest) ∙ whole in
+    let step = coming-step offset left [] whole' in
+    let some : (coming held []).blocks ≡ first_block offset left ∷ (framing_from (offset + declared_length left) (drop (declared_length left) left ++ [])).blocks =
+    ap (λ (z : Held). (coming z []).blocks) (sym view) ∙ ap (λ (f : Framing). f.blocks) step in
+    absurd (cc)
 
 -- then all of the feed's blocks were given
 pub Cuts-all : (held : Held) (fed : List ℕ) (given : List Block) → (coming held []).blocks ≡ [] → Cuts held fed given → given ≡ (framing fed).blocks
@@ -309,3 +320,24 @@ framing-ended feed part at found first before left_is h e all =
           ∙ ap (λ (f : Framing). f.blocks) all,
       ap (λ (f : Framing). f.end) (sym left) ∙ ap (λ (f : Framing). f.end) all,
     )
+
+-- a feed that has a whole block at a place has blocks
+pub framing-some : (feed part : List ℕ) (at : ℕ) (before : List Block) → part ≡ drop at feed → begins_whole part ≡ true → behind before (framing_from at (drop at feed)) ≡ framing feed → (framing feed).blocks ≢ []
+framing-some feed part at before left_is whole all = λ none.
+    let left : List ℕ = drop at feed in
+    let step = framing_from-step at left (ap begins_whole (sym left_is) ∙ whole) in
+    let some = ap (λ (f : Framing). length (before ++ f.blocks)) step ∙ length-append before (first_block at left ∷ (framing_from (at + declared_length left) (drop (declared_length left) left)).blocks) in
+    let same : length (before ++ (framing_from at left).blocks) ≡ 0 = ap (λ (f : Framing). length f.blocks) all ∙ ap length none in
+    absurd (omega arith)
+
+pub framing-some_found : (feed part : List ℕ) (at : ℕ) (found : Option Block) (block : Block) (before : List Block) → part ≡ drop at feed → found ≡ cond (begins_whole part) (Some (first_block at part)) None → found ≡ Some block → behind before (framing_from at (drop at feed)) ≡ framing feed → (framing feed).blocks ≢ []
+framing-some_found feed part at found block before left_is h some all =
+    framing-some feed part at before left_is (found_whole (begins_whole part) block (first_block at part) (sym some ∙ h)).0 all
+
+-- where a block is given one was held
+pub Gives-some : (old new : Held) (block : Block) → Gives old block new → held_blocks old ≢ []
+Gives-some old new block g = λ none. let some = ap (λ (f : Framing). f.blocks) (g.same []) in absurd (cc)
+
+-- nothing held has no block
+pub nothing-held : (held : Held) → length held.octets ≡ 0 → held_blocks held ≡ []
+nothing-held held h = ap (λ (f : Framing). f.blocks) (framing_from-ended held.offset (held.octets ++ []) (nothing_whole (held.octets ++ []) (omega (arith, length-append held.octets []))))

@@ -1,24 +1,25 @@
 -- Blocks that are written are read.
-use Rattle.std.proofs.Common.{◌≡◌, inl, inr, zero, suc, ℕ, ◌+◌, ◌-◌, ◌*◌, ◌/◌, ◌%◌, ◌^◌, ◌<◌, ◌≤◌, true, false, List, [], ◌∷◌, ◌++◌, length, take, drop, refl, sym, ◌∙◌, ap, subst, length-drop, append_assoc, arith, length-append}
+use Rattle.std.proofs.Common.{◌≡◌, inl, inr, zero, suc, ℕ, ◌+◌, ◌-◌, ◌*◌, ◌/◌, ◌%◌, ◌≤◌, true, false, List, [], ◌∷◌, ◌++◌, length, take, drop, refl, sym, ◌∙◌, ap, subst, length-drop, append_assoc, arith, length-append}
 use Rattle.std.specs.List.{flat_map}
 use Rattle.std.proofs.lemmas.List.{drop_at, take_at}
 use Rattle.std.proofs.lemmas.List.{drop-drop, take-append-drop}
 use Rattle.std.proofs.lemmas.Bool.{cases_Bool}
 use Rattle.asterix_fields.specs.Numbers.{octets, big_endian, AreOctets}
 use Rattle.asterix_blocks.specs.declared.blocks.Block.{Block}
-use Rattle.asterix_blocks.specs.Framing.{Framing, begins_whole, declared_length, first_block, framing, framing_from, behind}
-use Rattle.asterix_blocks.specs.Spelling.{block_length, spelled, StandFrom, Consists}
+use Rattle.asterix_blocks.specs.Framing.{Framing, begins_whole, block_length, declared_length, first_block, framing, framing_from, behind}
+use Rattle.asterix_fields.specs.declared.sizes.TheConstants.{BLOCK_ROOM}
+use Rattle.asterix_blocks.specs.Spelling.{spelled, StandFrom, Consists}
 use Rattle.asterix_blocks.proofs.Framings.{framing_from-step, framing_from-ended, whole_bounds, whole_within, length-body, ended}
 
 -- two octets hold the number that they were made of
-two_octets : (n : ℕ) → n < 2 ^ 16 → big_endian (octets 2 n) ≡ n
+two_octets : (n : ℕ) → n ≤ BLOCK_ROOM → big_endian (octets 2 n) ≡ n
 two_octets n h = omega arith
 
 -- what is read of a block that stands at the front
-declared-spelled : (block : Block) (more : List ℕ) → block_length block < 2 ^ 16 → declared_length (spelled block ++ more) ≡ block_length block
+declared-spelled : (block : Block) (more : List ℕ) → block_length block ≤ BLOCK_ROOM → declared_length (spelled block ++ more) ≡ block_length block
 declared-spelled block more h = two_octets (block_length block) h
 
-first_block-spelled : (block : Block) (more : List ℕ) → block_length block < 2 ^ 16 → first_block block.offset (spelled block ++ more) ≡ block
+first_block-spelled : (block : Block) (more : List ℕ) → block_length block ≤ BLOCK_ROOM → first_block block.offset (spelled block ++ more) ≡ block
 first_block-spelled block more h =
     let counted : declared_length (spelled block ++ more) - 3 ≡ length block.body = omega (arith, declared-spelled block more h) in
     let body : take (declared_length (spelled block ++ more) - 3) (block.body ++ more) ≡ block.body =
@@ -28,7 +29,7 @@ first_block-spelled block more h =
 length-spelled : (block : Block) → length (spelled block) ≡ block_length block
 length-spelled block = omega arith
 
-step-spelled : (offset : ℕ) (block : Block) (more : List ℕ) → block.offset ≡ offset → block_length block < 2 ^ 16 → framing_from offset (spelled block ++ more) ≡ behind (block ∷ []) (framing_from (offset + block_length block) more)
+step-spelled : (offset : ℕ) (block : Block) (more : List ℕ) → block.offset ≡ offset → block_length block ≤ BLOCK_ROOM → framing_from offset (spelled block ++ more) ≡ behind (block ∷ []) (framing_from (offset + block_length block) more)
 step-spelled offset block more place h =
     let octets : List ℕ = spelled block ++ more in
     let counted : declared_length octets ≡ block_length block = declared-spelled block more h in
@@ -67,7 +68,7 @@ AreOctets-drop (suc n) [] h = tt
 AreOctets-drop (suc n) (x ∷ xs) h = AreOctets-drop n xs h.1
 
 -- the octets of the block at the front are those that stand there
-spelled-first : (offset : ℕ) (xs : List ℕ) → begins_whole xs ≡ true → AreOctets xs → (xs ≡ spelled (first_block offset xs) ++ drop (declared_length xs) xs) × (declared_length xs < 2 ^ 16)
+spelled-first : (offset : ℕ) (xs : List ℕ) → begins_whole xs ≡ true → AreOctets xs → (xs ≡ spelled (first_block offset xs) ++ drop (declared_length xs) xs) × (declared_length xs ≤ BLOCK_ROOM)
 spelled-first offset [] h o = absurd (omega (arith, whole_bounds [] h))
 spelled-first offset (a ∷ []) h o = absurd (omega (arith, whole_bounds (a ∷ []) h))
 spelled-first offset (a ∷ b ∷ []) h o = absurd (omega (arith, whole_bounds (a ∷ b ∷ []) h))
@@ -98,7 +99,7 @@ ConsistsFrom-more offset xs blocks h o t =
     let first : Block = first_block offset xs in
     let is = spelled-first offset xs h o in
     let counted : block_length first ≡ declared_length xs = length-body offset xs h in
-    let short : block_length first < 2 ^ 16 = omega (arith, counted, is.1) in
+    let short : block_length first ≤ BLOCK_ROOM = omega (arith, counted, is.1) in
     (t.0, is.0 ∙ ap (λ z. spelled first ++ z) t.1 ∙ sym (append_assoc (spelled first) (flat_map spelled blocks) t.0), (refl, short, subst (λ n. StandFrom (offset + n) blocks) (sym counted) t.2), t.3)
 
 ConsistsFrom-none : (offset : ℕ) (xs : List ℕ) → begins_whole xs ≡ false → ConsistsFrom offset xs (framing_from offset xs).blocks

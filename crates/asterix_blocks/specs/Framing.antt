@@ -1,13 +1,14 @@
 -- Block framing (ASTERIX part 1, the data block): how the octets of a feed fall into blocks, and how they end.
-use Rattle.std.specs.Prelude.{ℕ, zero, suc, ◌+◌, Bool, ◌&&◌, nat_lt, nat_le, List, [], ◌∷◌, ◌++◌, length, drop, slice_index, slice_range, if◌then◌else◌}
+use Rattle.std.specs.Prelude.{ℕ, zero, suc, ◌+◌, Bool, ◌&&◌, nat_lt, nat_le, List, [], ◌∷◌, ◌++◌, length, drop, slice_index, slice_range, Option, Some, None, if◌then◌else◌}
 use Rattle.asterix_fields.specs.Numbers.{big_endian}
+use Rattle.asterix_fields.specs.declared.sizes.TheConstants.{HEADER_LENGTH}
 use Rattle.asterix_blocks.specs.declared.blocks.Block.{Block}
 use Rattle.asterix_blocks.specs.declared.blocks.End.{End}
 use Rattle.asterix_blocks.specs.declared.blocks.End.TheVariants.{Clean, Truncated, BadLength}
 
--- the octets of a block's category and length
-abbrev pub header_length : ℕ
-header_length = 3
+-- how many octets a block has, its header counted
+abbrev pub block_length : Block → ℕ
+block_length block = HEADER_LENGTH + length block.body
 
 -- LEN: what the octets 2 and 3 say, the number of a block's octets, its header counted
 abbrev pub declared_length : List ℕ → ℕ
@@ -16,15 +17,19 @@ declared_length few = 0
 
 -- a whole block stands at the front
 abbrev pub begins_whole : List ℕ → Bool
-begins_whole octets = nat_le header_length (declared_length octets) && nat_le (declared_length octets) (length octets)
+begins_whole octets = nat_le HEADER_LENGTH (declared_length octets) && nat_le (declared_length octets) (length octets)
 
 -- that block, where the octets begin at an offset in the feed
 abbrev pub first_block : ℕ → List ℕ → Block
 first_block offset octets = record {
   offset = offset;
   category = slice_index octets 0;
-  body = slice_range octets header_length (declared_length octets);
+  body = slice_range octets HEADER_LENGTH (declared_length octets);
 }
+
+-- that block, if a whole one stands there
+abbrev pub front_block : ℕ → List ℕ → Option Block
+front_block offset octets = if begins_whole octets then Some (first_block offset octets) else None
 
 -- how a feed ends where no whole block stands at an offset, at the front of these octets
 abbrev pub end_at : ℕ → List ℕ → End
@@ -32,7 +37,7 @@ end_at offset [] = Clean
 end_at offset (first ∷ []) = Truncated offset
 end_at offset (first ∷ second ∷ []) = Truncated offset
 end_at offset (category ∷ high ∷ low ∷ rest) =
-    if nat_lt (declared_length (category ∷ high ∷ low ∷ rest)) header_length then BadLength offset else Truncated offset
+    if nat_lt (declared_length (category ∷ high ∷ low ∷ rest)) HEADER_LENGTH then BadLength offset else Truncated offset
 
 -- blocks in order, and how the feed ends behind them
 pub record Framing : Type 0 where

@@ -1,13 +1,14 @@
 //! Blocks from a feed that comes in pieces.
-ghost use Rattle.std.specs.Prelude.{◌≡◌, ◌+◌, ◌*◌, ◌≤◌, ℕ, List, [], ◌∷◌, ◌++◌, length, drop, vec_len, IfOk, OnOk, OnErr, IfSome, IfNone, ◌≢◌};
+ghost use Rattle.std.specs.Prelude.{◌≡◌, ◌+◌, ◌*◌, ◌≤◌, ℕ, List, [], length, drop, vec_len, IsOk, IfOk, OnOk, OnErr, ◌≢◌};
 ghost use Rattle.std.specs.Bool.{OnTrue, OnFalse};
 ghost use Rattle.asterix_blocks.specs.declared.blocks.Block.{Block};
-ghost use Rattle.asterix_blocks.specs.Framing.{blocks, end, end_at};
-ghost use Rattle.asterix_blocks.specs.Cutting.{Cuts, Gives, coming};
+ghost use Rattle.asterix_blocks.specs.Framing.{end, end_at};
+ghost use Rattle.asterix_blocks.specs.Cutting.{Cuts, EndsBadly, Feeds, Gives, GivesBehind, HasGivenAll, IfGiven, IfNoneGiven, StandsAt, coming, held_blocks, held_with};
 
 use crate::blocks::{Block, End};
-use crate::framing::{HEADER_LENGTH, end_at, end_of, first_block};
+use crate::framing::{end_at, end_of, first_block};
 use crate::{FEED_ROOM, NoMemory};
+use asterix_fields::sizes::HEADER_LENGTH;
 use std::alloc::Global;
 use std::marker::Model;
 
@@ -39,6 +40,7 @@ impl Model for Cutter {
 impl Cutter {
     /// A cutter at the start of a feed.
     pub fn new(alloc: Global) -> Result<Cutter, NoMemory>
+        ensures memory { IsOk result }
         ensures held { IfOk result (λ cutter. cutter ≡ record { offset = 0; octets = [] }) }
         ensures start { IfOk result (λ cutter. Cuts cutter [] []) }
     {
@@ -53,9 +55,10 @@ impl Cutter {
     /// Takes the next piece of the feed.
     pub fn feed(&mut self, piece: &[u8]) -> Result<(), NoMemory>
         requires { self.old.offset + length self.old.octets + length piece.now ≤ FEED_ROOM }
-        ensures held { OnOk result (self.new ≡ record { offset = self.old.offset; octets = self.old.octets ++ piece.now }) }
-        ensures fed { OnOk result ((fed : List ℕ) (given : List Block) → Cuts self.old fed given → Cuts self.new (fed ++ piece.now) given) }
+        ensures held { OnOk result (self.new ≡ held_with self.old piece.now) }
+        ensures fed { OnOk result (Feeds self.old piece.now self.new) }
         ensures err { OnErr result (self.new ≡ self.old) }
+        ensures memory { OnErr result (piece.now ≢ []) }
     {
         self.given = drop_given(&mut self.octets, self.given);
         self.octets.extend_from_slice(piece)?;
@@ -64,18 +67,17 @@ impl Cutter {
 
     /// The next block, if a whole one is held.
     pub fn next(&mut self) -> Result<Option<Block>, NoMemory>
-        ensures block { IfOk result (λ found. IfSome found (λ block. Gives self.old block self.new)) }
-        ensures given { IfOk result (λ found. IfSome found (λ block. (fed : List ℕ) (given : List Block) → Cuts self.old fed given → Cuts self.new fed (given ++ block ∷ []))) }
-
-        // Where it stands, and that it has no more octets than its length can say.
-        ensures place { IfOk result (λ found. IfSome found (λ block. block.offset ≡ self.old.offset)) }
-        ensures early { IfOk result (λ found. IfSome found (λ block. block.offset ≤ FEED_ROOM)) }
-        ensures bound { IfOk result (λ found. IfSome found (λ block. 3 + length block.body ≤ 65535)) }
+        ensures block { IfGiven result (λ block. Gives self.old block self.new) }
+        ensures given { IfGiven result (λ block. GivesBehind self.old block self.new) }
+        ensures stands { IfGiven result (λ block. StandsAt self.old.offset block) }
 
         // None only where what was fed has no further block.
-        ensures none { IfOk result (λ found. IfNone found ((coming self.old []).blocks ≡ [])) }
-        ensures all { IfOk result (λ found. IfNone found ((fed : List ℕ) (given : List Block) → Cuts self.old fed given → given ≡ blocks fed)) }
-        ensures same { IfOk result (λ found. IfNone found (self.new ≡ self.old)) }
+        ensures none { IfNoneGiven result (held_blocks self.old ≡ []) }
+        ensures all { IfNoneGiven result (HasGivenAll self.old) }
+        ensures same { IfNoneGiven result (self.new ≡ self.old) }
+
+        // Memory is wanted only for a whole block that is held.
+        ensures memory { OnErr result (held_blocks self.old ≢ []) }
         ensures err { OnErr result (self.new ≡ self.old) }
     {
         match first_block(self.alloc, &self.octets[self.given..], self.offset)? {
@@ -91,7 +93,7 @@ impl Cutter {
 
     /// Whether the next length is below that of a header, so that nothing more of the feed is read.
     pub fn has_bad_length(&self) -> bool
-        ensures bad { OnTrue result ((more : List ℕ) → coming self.now more ≡ record { blocks = []; end = End.BadLength self.now.offset }) }
+        ensures bad { OnTrue result (EndsBadly self.now) }
         ensures good { OnFalse result (end_at self.now.offset self.now.octets ≢ End.BadLength self.now.offset) }
     {
         matches!(
@@ -109,8 +111,7 @@ impl Cutter {
     }
 }
 
-/// Drops the octets that were given, once they are half of all: so no more are moved than were given.
-/// Answers how many of those given are left.
+/// Drops the octets that were given, once they are half of all. Answers how many of those given are left.
 fn drop_given(octets: &mut Vec<u8>, given: usize) -> usize
     requires { given ≤ vec_len octets.old }
     ensures rest { drop result octets.new.items ≡ drop given octets.old.items }

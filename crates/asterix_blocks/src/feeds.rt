@@ -1,13 +1,13 @@
 //! Whole feeds.
-ghost use Rattle.std.specs.Prelude.{◌≡◌, ◌≤◌, ℕ, List, ◌++◌, length, IfOk, OnOk};
-ghost use Rattle.std.specs.List.{flat_map};
+ghost use Rattle.std.specs.Prelude.{◌≡◌, ◌≢◌, ◌≤◌, [], length, IfOk, OnOk, OnErr};
 ghost use Rattle.asterix_blocks.specs.Framing.{blocks, end};
-ghost use Rattle.asterix_blocks.specs.Cutting.{Cuts};
+ghost use Rattle.asterix_blocks.specs.Cutting.{GivesAll, held_blocks, octets_of};
 
 use crate::blocks::{Block, End};
 use crate::cutting::Cutter;
-use crate::framing::{HEADER_LENGTH, end_at, first_block};
+use crate::framing::{end_at, first_block};
 use crate::{FEED_ROOM, NoMemory};
+use asterix_fields::sizes::HEADER_LENGTH;
 use std::alloc::Global;
 
 /// The blocks of a feed, and how it ends.
@@ -22,6 +22,7 @@ pub fn frame(alloc: Global, feed: &[u8]) -> Result<Framed, NoMemory>
     requires { length feed.now ≤ FEED_ROOM }
     ensures blocks { IfOk result (λ framed. framed.blocks.items ≡ blocks feed.now) }
     ensures end { IfOk result (λ framed. framed.end ≡ end feed.now) }
+    ensures memory { OnErr result (blocks feed.now ≢ []) }
 {
     let mut blocks = Vec::new(alloc);
     let mut at = 0;
@@ -37,9 +38,10 @@ pub fn frame(alloc: Global, feed: &[u8]) -> Result<Framed, NoMemory>
 
 /// Frames a feed that comes in these pieces: the blocks and the end are those of the joined feed.
 pub fn frame_pieces(alloc: Global, pieces: &[&[u8]]) -> Result<Framed, NoMemory>
-    requires { length (flat_map (λ piece. piece.now) pieces.now) ≤ FEED_ROOM }
-    ensures blocks { IfOk result (λ framed. framed.blocks.items ≡ blocks (flat_map (λ piece. piece.now) pieces.now)) }
-    ensures end { IfOk result (λ framed. framed.end ≡ end (flat_map (λ piece. piece.now) pieces.now)) }
+    requires { length (octets_of pieces.now) ≤ FEED_ROOM }
+    ensures blocks { IfOk result (λ framed. framed.blocks.items ≡ blocks (octets_of pieces.now)) }
+    ensures end { IfOk result (λ framed. framed.end ≡ end (octets_of pieces.now)) }
+    ensures memory { OnErr result (octets_of pieces.now ≢ []) }
 {
     let mut cutter = Cutter::new(alloc)?;
     let mut blocks = Vec::new(alloc);
@@ -55,8 +57,8 @@ pub fn frame_pieces(alloc: Global, pieces: &[&[u8]]) -> Result<Framed, NoMemory>
 
 /// Takes all blocks that are whole by now.
 pub fn take_blocks(cutter: &mut Cutter, taken: &mut Vec<Block>) -> Result<(), NoMemory>
-    ensures given { OnOk result ((fed : List ℕ) → Cuts cutter.old fed taken.old.items → Cuts cutter.new fed taken.new.items) }
-    ensures all { OnOk result ((fed : List ℕ) → Cuts cutter.old fed taken.old.items → taken.new.items ≡ blocks fed) }
+    ensures given { OnOk result (GivesAll cutter.old taken.old.items cutter.new taken.new.items) }
+    ensures memory { OnErr result (held_blocks cutter.old ≢ []) }
 {
     while let Some(block) = cutter.next()? {
         taken.push(block)?;

@@ -1,20 +1,19 @@
 //! What stands at the front of octets.
-ghost use Rattle.std.specs.Prelude.{◌≡◌, ◌+◌, ◌≤◌, length, IfOk, IfSome, if◌then◌else◌};
-ghost use Rattle.asterix_blocks.specs.Framing.{begins_whole, declared_length, first_block, end_at, framing_from};
+ghost use Rattle.std.specs.Prelude.{◌≡◌, ◌+◌, ◌≤◌, length, true, IfOk, IfSome, OnErr, if◌then◌else◌};
+ghost use Rattle.asterix_blocks.specs.Framing.{begins_whole, block_length, declared_length, front_block, end_at, framing_from};
+ghost use Rattle.asterix_blocks.specs.Cutting.{IfGiven};
 
 use crate::blocks::{Block, Body, End};
 use crate::{FEED_ROOM, NoMemory};
 use asterix_fields::be16;
+use asterix_fields::sizes::{BLOCK_ROOM, HEADER_LENGTH};
 use std::alloc::Global;
-
-/// The octets of a block's category and length.
-pub const HEADER_LENGTH: usize = 3;
 
 /// What the octets 2 and 3 say.
 fn declared_length(octets: &[u8]) -> usize
-    requires { 3 ≤ length octets.now }
+    requires { HEADER_LENGTH ≤ length octets.now }
     ensures length { result ≡ declared_length octets.now }
-    ensures bound { result ≤ 65535 }
+    ensures bound { result ≤ BLOCK_ROOM }
 {
     usize::from(be16([octets[1], octets[2]]))
 }
@@ -22,7 +21,7 @@ fn declared_length(octets: &[u8]) -> usize
 /// How many octets the block at the front takes, if a whole one stands there.
 pub fn whole_length(octets: &[u8]) -> Option<usize>
     ensures length { result ≡ (if begins_whole octets.now then Some (declared_length octets.now) else None) }
-    ensures bound { IfSome result (λ length. length ≤ 65535) }
+    ensures bound { IfSome result (λ length. length ≤ BLOCK_ROOM) }
 {
     if octets.len() < HEADER_LENGTH {
         return None;
@@ -36,11 +35,14 @@ pub fn whole_length(octets: &[u8]) -> Option<usize>
 
 /// The block at the front, if a whole one stands there. The octets begin at the offset in the feed.
 pub fn first_block(alloc: Global, octets: &[u8], offset: u64) -> Result<Option<Block>, NoMemory>
-    ensures block { IfOk result (λ found. found ≡ (if begins_whole octets.now then Some (first_block offset octets.now) else None)) }
-    ensures length { IfOk result (λ found. IfSome found (λ block. 3 + length block.body ≡ declared_length octets.now)) }
-    ensures within { IfOk result (λ found. IfSome found (λ block. 3 + length block.body ≤ length octets.now)) }
-    ensures bound { IfOk result (λ found. IfSome found (λ block. 3 + length block.body ≤ 65535)) }
-    ensures place { IfOk result (λ found. IfSome found (λ block. block.offset ≡ offset)) }
+    ensures block { IfOk result (λ found. found ≡ front_block offset octets.now) }
+    ensures length { IfGiven result (λ block. block_length block ≡ declared_length octets.now) }
+    ensures within { IfGiven result (λ block. block_length block ≤ length octets.now) }
+    ensures bound { IfGiven result (λ block. block_length block ≤ BLOCK_ROOM) }
+    ensures place { IfGiven result (λ block. block.offset ≡ offset) }
+
+    // Memory is wanted for a block that is there.
+    ensures memory { OnErr result (begins_whole octets.now ≡ true) }
 {
     match whole_length(octets) {
         None => Ok(None),

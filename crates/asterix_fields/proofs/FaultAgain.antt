@@ -31,7 +31,7 @@ presence_over spare past long index [] tail asks few none = ap (λ (n : ℕ). pr
 presence_over spare past long index (octet ∷ rest) tail asks few none =
     let here : spare index ≡ None = none index (omega arith) (omega arith) in
     let odd : eqb (octet % 2) 0 ≡ false = let one = asks.0 in ne_eqb _ _ (omega arith) in
-    let before : eqb index 4 ≡ false = ne_eqb index 4 (omega arith) in
+    let before : eqb (index + 1) 5 ≡ false = ne_eqb (index + 1) 5 (omega arith) in
     let again : presence_at spare past long (index + 1) (rest ++ tail) ≡ presence_at spare past long (index + 1 + length rest) tail =
     presence_over spare past long (index + 1) rest tail asks.1 (omega arith) (λ i low high. none i (omega arith) (omega arith)) in
     let sum : index + 1 + length rest ≡ index + length (octet ∷ rest) = omega arith in
@@ -55,12 +55,12 @@ presence_long spare past long index more [] five asks inside none = absurd (omeg
 presence_long spare past long index zero (octet ∷ rest) five asks inside none =
     let here : spare index ≡ None = none index (omega arith) (omega arith) in
     let odd : eqb (octet % 2) 0 ≡ false = let one = asks.0 in ne_eqb _ _ (omega arith) in
-    let fifth : eqb index 4 ≡ true = eq-eqb index 4 (omega arith) in
+    let fifth : eqb (index + 1) 5 ≡ true = eq-eqb (index + 1) 5 (omega arith) in
     rw (here, odd, fifth) refl
 presence_long spare past long index (suc more) (octet ∷ rest) five asks inside none =
     let here : spare index ≡ None = none index (omega arith) (omega arith) in
     let odd : eqb (octet % 2) 0 ≡ false = let one = asks.0 in ne_eqb _ _ (omega arith) in
-    let before : eqb index 4 ≡ false = ne_eqb index 4 (omega arith) in
+    let before : eqb (index + 1) 5 ≡ false = ne_eqb (index + 1) 5 (omega arith) in
     rw (here, odd, before) (presence_long spare past long (index + 1) more rest (omega arith) asks.1 (omega arith) (λ i low high. none i (omega arith) high))
 
 presence_spare : (spare : ℕ → Option ItemFault) (past long : ItemFault) (index octet : ℕ) (rest : List ℕ) (found : ItemFault) → spare index ≡ Some found → presence_at spare past long index (octet ∷ rest) ≡ Err found

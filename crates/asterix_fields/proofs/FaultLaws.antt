@@ -48,7 +48,7 @@ presence_breaks spare past long index [] fault few e =
     record { taken = 0; asks = tt; inside = omega arith; none = λ i low high. absurd (omega arith); why = inl (refl, omega arith, sym (err_is {A = ℕ} past fault e)) }
 presence_breaks spare past long index (octet ∷ rest) fault few e =
     let after : Read ℕ = presence_at spare past long (index + 1) rest in
-    let next : Read ℕ = cond (eqb index 4) (Err long) after in
+    let next : Read ℕ = cond (eqb (index + 1) 5) (Err long) after in
     elim (unless_err (spare index) (cond (eqb (octet % 2) 0) (Ok (index + 1)) next) fault e) [
       | inl here ↦
           let zero_more : index + 0 ≡ index = omega arith in
@@ -64,9 +64,9 @@ presence_breaks spare past long index (octet ∷ rest) fault few e =
             | inl w ↦ not_err (index + 1) fault w.1
             | inr w ↦
                 let odd : octet % 2 ≡ 1 = let ne = eqb-false _ _ w.0 in omega arith in
-                elim (chosen (eqb index 4) (Err long) after (Err fault) w.1) [
+                elim (chosen (eqb (index + 1) 5) (Err long) after (Err fault) w.1) [
                   | inl v ↦
-                      let fifth : index ≡ 4 = eqb-true _ _ v.0 in
+                      let fifth : index + 1 ≡ 5 = eqb-true _ _ v.0 in
                       record {
                         taken = 1;
                         asks = (odd, tt);
@@ -75,7 +75,7 @@ presence_breaks spare past long index (octet ∷ rest) fault few e =
                         why = inr (inr (omega arith, sym (err_is {A = ℕ} long fault v.1)));
                       }
                   | inr v ↦
-                      let before : index ≡ 4 → ⊥ = eqb-false _ _ v.0 in
+                      let before : index + 1 ≡ 5 → ⊥ = eqb-false _ _ v.0 in
                       let t = presence_breaks spare past long (index + 1) rest fault (omega arith) v.1 in
                       let end : index + 1 + t.taken ≡ index + suc t.taken = omega arith in
                       let size : index + 1 + length rest ≡ index + length (octet ∷ rest) = omega arith in

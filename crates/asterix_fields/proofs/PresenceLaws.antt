@@ -50,7 +50,7 @@ unfolding presence_at
 presence_takes spare past long index [] n few e = not_ok past n e
 presence_takes spare past long index (octet ∷ rest) n few e =
     let after : Result ℕ ItemFault = presence_at spare past long (index + 1) rest in
-    let next : Result ℕ ItemFault = cond (eqb index 4) (Err long) after in
+    let next : Result ℕ ItemFault = cond (eqb (index + 1) 5) (Err long) after in
     let here = unless_ok (spare index) (cond (eqb (octet % 2) 0) (Ok (index + 1)) next) n e in
     elim (chosen (eqb (octet % 2) 0) (Ok (index + 1)) next (Ok n) here.1) [
       | inl w ↦
@@ -61,10 +61,10 @@ presence_takes spare past long index (octet ∷ rest) n few e =
           record { size = 1; sum = sym n_is; inside = omega arith; chain = even; few = omega arith; none = only }
       | inr w ↦
           let odd : octet % 2 ≡ 1 = let ne = eqb-false _ _ w.0 in omega arith in
-          elim (chosen (eqb index 4) (Err long) after (Ok n) w.1) [
+          elim (chosen (eqb (index + 1) 5) (Err long) after (Ok n) w.1) [
             | inl v ↦ not_ok long n v.1
             | inr v ↦
-                let before : index ≡ 4 → ⊥ = eqb-false _ _ v.0 in
+                let before : index + 1 ≡ 5 → ⊥ = eqb-false _ _ v.0 in
                 let t = presence_takes spare past long (index + 1) rest n (omega arith) v.1 in
                 record {
                   size = suc t.size;
@@ -87,7 +87,7 @@ presence_again spare past long index (octet ∷ []) rest chain few none =
     rw (here, chain) refl
 presence_again spare past long index (octet ∷ next ∷ others) rest chain few none =
     let here : spare index ≡ None = none index (omega arith) (omega arith) in
-    let before : eqb index 4 ≡ false = ne_eqb index 4 (omega arith) in
+    let before : eqb (index + 1) 5 ≡ false = ne_eqb (index + 1) 5 (omega arith) in
     let again : presence_at spare past long (index + 1) ((next ∷ others) ++ rest) ≡ Ok (index + 1 + length (next ∷ others)) =
     presence_again spare past long (index + 1) (next ∷ others) rest chain.1 (omega arith) (λ i low high. none i (omega arith) (omega arith)) in
     let sum : index + 1 + length (next ∷ others) ≡ index + length (octet ∷ next ∷ others) = omega arith in

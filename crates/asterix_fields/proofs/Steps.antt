@@ -30,7 +30,7 @@ first_named_end octets end number h =
 
 pub presence_step : (spare : ℕ → Option ItemFault) (past long : ItemFault) (bytes : List ℕ) (index : ℕ) → index < length bytes
     → presence_at spare past long index (drop index bytes)
-    ≡ unless (spare index) (cond (eqb (get_or bytes index 0 % 2) 0) (Ok (index + 1)) (cond (eqb index 4) (Err long) (presence_at spare past long (index + 1) (drop (index + 1) bytes))))
+    ≡ unless (spare index) (cond (eqb (get_or bytes index 0 % 2) 0) (Ok (index + 1)) (cond (eqb (index + 1) 5) (Err long) (presence_at spare past long (index + 1) (drop (index + 1) bytes))))
 unfolding presence_at
 presence_step spare past long bytes index h = rw (drop_more bytes index 0 h) refl
 
@@ -90,7 +90,7 @@ primary_start frn rows bytes = refl
 
 primary_step : (frn rows : ℕ) (bytes : List ℕ) (index : ℕ) → index < length bytes
     → primary_from frn rows bytes index
-    ≡ unless (option_map (SpareSubfield frn) (spare_subfield bytes rows index)) (cond (eqb (get_or bytes index 0 % 2) 0) (Ok (index + 1)) (cond (eqb index 4) (Err (SpareSubfield frn 36)) (primary_from frn rows bytes (index + 1))))
+    ≡ unless (option_map (SpareSubfield frn) (spare_subfield bytes rows index)) (cond (eqb (get_or bytes index 0 % 2) 0) (Ok (index + 1)) (cond (eqb (index + 1) 5) (Err (SpareSubfield frn 36)) (primary_from frn rows bytes (index + 1))))
 unfolding primary_from
 primary_step frn rows bytes index h = presence_step (λ i. option_map (SpareSubfield frn) (spare_subfield bytes rows i)) (PastEnd frn) (SpareSubfield frn 36) bytes index h
 
@@ -102,18 +102,18 @@ pub primary_last : (frn rows : ℕ) (bytes : List ℕ) (index : ℕ) → index <
     → primary_from frn rows bytes index ≡ Ok (index + 1)
 primary_last frn rows bytes index h e even = primary_step frn rows bytes index h ∙ rw (e, even) refl
 
-pub primary_fifth : (frn rows : ℕ) (bytes : List ℕ) (index : ℕ) → index < length bytes → spare_subfield bytes rows index ≡ None → get_or bytes index 0 % 2 ≢ 0 → index ≡ 4
+pub primary_fifth : (frn rows : ℕ) (bytes : List ℕ) (index : ℕ) → index < length bytes → spare_subfield bytes rows index ≡ None → get_or bytes index 0 % 2 ≢ 0 → index + 1 ≡ 5
     → primary_from frn rows bytes index ≡ Err (SpareSubfield frn 36)
 primary_fifth frn rows bytes index h e odd fifth =
     let more : eqb (get_or bytes index 0 % 2) 0 ≡ false = ne_eqb _ _ odd in
-    let last : eqb index 4 ≡ true = eq-eqb index 4 fifth in
+    let last : eqb (index + 1) 5 ≡ true = eq-eqb (index + 1) 5 fifth in
     primary_step frn rows bytes index h ∙ rw (e, more, last) refl
 
-pub primary_next : (frn rows : ℕ) (bytes : List ℕ) (index : ℕ) → index < length bytes → spare_subfield bytes rows index ≡ None → get_or bytes index 0 % 2 ≢ 0 → index ≢ 4
+pub primary_next : (frn rows : ℕ) (bytes : List ℕ) (index : ℕ) → index < length bytes → spare_subfield bytes rows index ≡ None → get_or bytes index 0 % 2 ≢ 0 → index + 1 ≢ 5
     → primary_from frn rows bytes index ≡ primary_from frn rows bytes (index + 1)
 primary_next frn rows bytes index h e odd few =
     let more : eqb (get_or bytes index 0 % 2) 0 ≡ false = ne_eqb _ _ odd in
-    let before : eqb index 4 ≡ false = ne_eqb index 4 few in
+    let before : eqb (index + 1) 5 ≡ false = ne_eqb (index + 1) 5 few in
     primary_step frn rows bytes index h ∙ rw (e, more, before) refl
 
 pub primary_past : (frn rows : ℕ) (bytes : List ℕ) (index : ℕ) → length bytes ≤ index → primary_from frn rows bytes index ≡ Err (PastEnd frn)

@@ -3,6 +3,7 @@
 -- Each definition answers how many octets stand at the front, or the first fault there.
 use Rattle.std.specs.Prelude.{◌≡◌, ℕ, zero, suc, ◌+◌, ◌-◌, ◌*◌, ◌%◌, ◌==◌, max, List, [], ◌∷◌, length, take, drop, nat_lt, if◌then◌else◌, Option, None, Some, Result, Ok, Err}
 use Rattle.std.specs.Option.{option_map}
+use Rattle.asterix_fields.specs.declared.sizes.TheConstants.{MOST_ITEMS, NO_SUBFIELD, PRESENCE_ROOM}
 use Rattle.asterix_fields.specs.declared.tables.Form.{Form}
 use Rattle.asterix_fields.specs.declared.tables.Form.TheVariants.{Spare, Fixed, Extended, Explicit, Repeat, Compound}
 use Rattle.asterix_fields.specs.declared.places.Span.{Span}
@@ -58,7 +59,7 @@ unfoldable pub presence_at : (ℕ → Option ItemFault) → ItemFault → ItemFa
 presence_at spare past long index [] = Err past
 presence_at spare past long index (octet ∷ rest) =
     unless (spare index)
-    (if octet % 2 == 0 then Ok (index + 1) else (if index == 4 then Err long else presence_at spare past long (index + 1) rest))
+    (if octet % 2 == 0 then Ok (index + 1) else (if index + 1 == PRESENCE_ROOM then Err long else presence_at spare past long (index + 1) rest))
 
 abbrev pub fspec_at : List ℕ → Result ℕ ItemFault
 fspec_at bytes = presence_at (λ index. None) (PastEnd 0) LongFspec 0 bytes
@@ -69,7 +70,7 @@ spare_subfield bytes rows index = let from = max (7 * index + 1) (rows + 1) in f
 
 abbrev pub primary_at : ℕ → ℕ → List ℕ → Result ℕ ItemFault
 primary_at frn rows bytes =
-    presence_at (λ index. option_map (SpareSubfield frn) (spare_subfield bytes rows index)) (PastEnd frn) (SpareSubfield frn 36) 0 bytes
+    presence_at (λ index. option_map (SpareSubfield frn) (spare_subfield bytes rows index)) (PastEnd frn) (SpareSubfield frn NO_SUBFIELD) 0 bytes
 
 -- a row that isn't named has no octet
 abbrev pub named_at : (ℕ → Form → List ℕ → Result ℕ ItemFault) → List ℕ → ℕ → Form → List ℕ → Result ℕ ItemFault
@@ -110,7 +111,7 @@ unfoldable pub record_at : List Form → List Form → List ℕ → Result (List
 record_at uap subs bytes = do
   fspec ← fspec_at bytes
   items ← spans_at (item_at subs) (take fspec bytes) 1 fspec uap (drop fspec bytes)
-  none ← no_more (first_named (take fspec bytes) (35 - length uap) (length uap + 1))
+  none ← no_more (first_named (take fspec bytes) (MOST_ITEMS - length uap) (length uap + 1))
   Ok items
 
 -- the first fault, where no record stands at the front

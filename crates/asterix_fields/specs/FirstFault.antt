@@ -2,6 +2,7 @@
 -- (this project's profile). First come the FSPEC's octets, then the named items by rising number, and within a compound its primary
 -- octets one by one, from bit 8 down, and then its subfields.
 use Rattle.std.specs.Prelude.{◌≡◌, ℕ, zero, suc, ◌+◌, ◌-◌, ◌*◌, ◌/◌, ◌%◌, ◌<◌, ◌≤◌, ◌⊎◌, true, false, List, [], ◌∷◌, ◌++◌, length, take, slice_index, slice_index_or}
+use Rattle.asterix_fields.specs.declared.sizes.TheConstants.{MOST_ITEMS, NO_SUBFIELD, PRESENCE_ROOM}
 use Rattle.asterix_fields.specs.declared.tables.Form.{Form}
 use Rattle.asterix_fields.specs.declared.tables.Form.TheVariants.{Spare, Fixed, Extended, Explicit, Repeat, Compound}
 use Rattle.asterix_fields.specs.declared.fault.ItemFault.{ItemFault}
@@ -16,11 +17,11 @@ AllAsk (octet ∷ rest) = (octet % 2 ≡ 1) × AllAsk rest
 
 -- presence octets that end while the last of fewer than five asks for another
 abbrev pub IsCut : List ℕ → Type 0
-IsCut bytes = AllAsk bytes × (length bytes < 5)
+IsCut bytes = AllAsk bytes × (length bytes < PRESENCE_ROOM)
 
 -- presence octets of which the fifth asks for another
 abbrev pub IsLong : List ℕ → Type 0
-IsLong bytes = AllAsk (take 5 bytes) × (5 ≤ length bytes)
+IsLong bytes = AllAsk (take PRESENCE_ROOM bytes) × (PRESENCE_ROOM ≤ length bytes)
 
 abbrev pub FspecFails : List ℕ → ItemFault → Type 0
 FspecFails bytes fault = (IsCut bytes × (fault ≡ PastEnd 0)) ⊎ (IsLong bytes × (fault ≡ LongFspec))
@@ -34,14 +35,14 @@ pub record NamesSpare (rows : ℕ) (bytes : List ℕ) (number : ℕ) : Type 0 wh
   pub named : is_named bytes number ≡ true
   pub past : rows < number
   pub first : (earlier : ℕ) → rows < earlier → earlier < number → is_named bytes earlier ≡ false
-  pub few : number ≤ 35
+  pub few : number ≤ MOST_ITEMS
   pub asked_for : AllAsk (take ((number - 1) / 7) bytes)
 
 abbrev pub PrimaryFails : ℕ → ℕ → List ℕ → ItemFault → Type 0
 PrimaryFails frn rows bytes fault =
     ((number : ℕ) × NamesSpare rows bytes number × (fault ≡ SpareSubfield frn number))
     ⊎ ((IsCut bytes × NamesRowsOnly rows bytes × (fault ≡ PastEnd frn))
-    ⊎ (IsLong bytes × NamesRowsOnly rows (take 5 bytes) × (fault ≡ SpareSubfield frn 36)))
+    ⊎ (IsLong bytes × NamesRowsOnly rows (take PRESENCE_ROOM bytes) × (fault ≡ SpareSubfield frn NO_SUBFIELD)))
 
 -- whole parts that all ask for another, and then less than a part
 abbrev pub ArePartsOnly : ℕ → List (List ℕ) → List ℕ → Type 0

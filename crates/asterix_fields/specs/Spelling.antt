@@ -1,5 +1,6 @@
 -- What octets spell an item, and what they spell a record: by form, over whole texts (ASTERIX Part 1: data fields, FSPEC, compound data items).
 use Rattle.std.specs.Prelude.{◌≡◌, ℕ, ◌+◌, ◌-◌, ◌*◌, ◌/◌, ◌%◌, ◌^◌, ◌<◌, ◌≤◌, ◌==◌, Bool, true, false, List, [], ◌∷◌, ◌++◌, length, take, drop, map, slice_index, slice_index_or}
+use Rattle.asterix_fields.specs.declared.sizes.TheConstants.{PRESENCE_ROOM}
 use Rattle.asterix_fields.specs.declared.tables.Form.{Form}
 use Rattle.asterix_fields.specs.declared.tables.Form.TheVariants.{Spare, Fixed, Extended, Explicit, Repeat, Compound}
 use Rattle.asterix_fields.specs.declared.places.Span.{Span}
@@ -18,7 +19,7 @@ IsChain (octet ∷ next ∷ rest) = (octet % 2 ≡ 1) × IsChain (next ∷ rest)
 
 -- one to five octets that tell by bits 8 to 2 what is present: an FSPEC, or a primary subfield
 abbrev pub IsPresence : List ℕ → Type 0
-IsPresence octets = IsChain octets × (length octets ≤ 5)
+IsPresence octets = IsChain octets × (length octets ≤ PRESENCE_ROOM)
 
 -- whether presence octets name a number: bits 8 to 2 of octet j, from 1, are the numbers 7 * (j - 1) + 1 to 7 * j
 abbrev pub is_named : List ℕ → ℕ → Bool
@@ -81,12 +82,25 @@ abbrev pub places : ℕ → List (List ℕ) → List Span
 places at [] = []
 places at (text ∷ texts) = record { at = at; len = length text } ∷ places (at + length text) texts
 
--- the texts at these places
+-- the text at a place, and the texts at several
+abbrev pub text_at : List ℕ → Span → List ℕ
+text_at bytes span = take span.len (drop span.at bytes)
+
 abbrev pub texts_at : List ℕ → List Span → List (List ℕ)
-texts_at bytes spans = map (λ span. take span.len (drop span.at bytes)) spans
+texts_at bytes spans = map (text_at bytes) spans
 
 -- the octets begin with a record of so many octets, whose items stand at these places
 pub record IsWalk (uap subs : List Form) (bytes : List ℕ) (spans : List Span) (size : ℕ) : Type 0 where
   pub inside : size ≤ length bytes
   pub spelled : Spells uap subs (take size bytes) (texts_at bytes spans)
   pub in_order : spans ≡ places (length spelled.presence) (texts_at bytes spans)
+
+-- each item of a walk is the text at its place: an item that the FSPEC names has a spelling there, any other one has no octet
+abbrev pub HasItems : {uap subs : List Form} {bytes : List ℕ} {spans : List Span} {size : ℕ} → IsWalk uap subs bytes spans size → Type 0
+HasItems {uap} {subs} {bytes} {spans} walk = (k : ℕ) (d : Span) → k < length uap
+    → Stands (Item subs) (is_named walk.spelled.presence (k + 1)) (slice_index_or uap k Spare) (text_at bytes (slice_index_or spans k d))
+
+-- no text begins with two records
+abbrev pub HasOneSpelling : List Form → List Form → Type 0
+HasOneSpelling uap subs = (a b x y : List ℕ) (m n : List (List ℕ)) → Spells uap subs a m → Spells uap subs b n
+    → a ++ x ≡ b ++ y → (a ≡ b) × (m ≡ n)

@@ -1,6 +1,7 @@
 -- Which tables a record can be read by (this project's profile: at most 35 items, as five FSPEC octets name).
 use Rattle.std.specs.Prelude.{ℕ, ◌+◌, Bool, true, false, ◌&&◌, IsTrue, List, length, take, drop, nat_le}
 use Rattle.std.specs.List.{list_all}
+use Rattle.asterix_fields.specs.declared.sizes.TheConstants.{MOST_ITEMS}
 use Rattle.asterix_fields.specs.declared.tables.Form.{Form}
 use Rattle.asterix_fields.specs.declared.tables.Form.TheVariants.{Spare, Fixed, Extended, Explicit, Repeat, Compound}
 
@@ -36,7 +37,7 @@ has_rows subs Explicit = true
 has_rows subs (Repeat size) = true
 
 abbrev pub is_well_formed : List Form → List Form → Bool
-is_well_formed uap subs = nat_le (length uap) 35 && list_all has_length uap && list_all has_length subs && list_all (has_rows subs) uap
+is_well_formed uap subs = nat_le (length uap) MOST_ITEMS && list_all has_length uap && list_all has_length subs && list_all (has_rows subs) uap
 
 -- A record can be read by these tables. (A test that computes, so that constant tables prove it by themselves.)
 abbrev pub WellFormed : List Form → List Form → Type 0

@@ -7,6 +7,7 @@ pub mod laws;
 mod numbers;
 mod places;
 mod presence;
+pub mod sizes;
 mod tables;
 mod walking;
 

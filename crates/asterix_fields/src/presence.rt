@@ -5,6 +5,7 @@ ghost use Rattle.asterix_fields.specs.Spelling.{is_named};
 ghost use Rattle.asterix_fields.specs.Faults.{first_named, fspec_at, primary_at, spare_subfield};
 
 use crate::fault::ItemFault;
+use crate::sizes::{NO_SUBFIELD, PRESENCE_ROOM};
 
 /// Whether presence octets name a number, from 1.
 pub fn is_named(octets: &[u8], number: usize) -> bool
@@ -41,7 +42,7 @@ pub fn fspec_length(bytes: &[u8]) -> Result<usize, ItemFault>
         if *octet % 2 == 0 {
             return Ok(index + 1);
         }
-        if index == 4 {
+        if index + 1 == PRESENCE_ROOM {
             return Err(ItemFault::LongFspec);
         }
     }
@@ -61,8 +62,8 @@ pub fn primary_length(frn: u8, rows: usize, bytes: &[u8]) -> Result<usize, ItemF
         if *octet % 2 == 0 {
             return Ok(index + 1);
         }
-        if index == 4 {
-            return Err(ItemFault::SpareSubfield(frn, 36));
+        if index + 1 == PRESENCE_ROOM {
+            return Err(ItemFault::SpareSubfield(frn, NO_SUBFIELD));
         }
     }
     Err(ItemFault::PastEnd(frn))
@@ -70,7 +71,7 @@ pub fn primary_length(frn: u8, rows: usize, bytes: &[u8]) -> Result<usize, ItemF
 
 /// The first subfield past the item's rows that a primary octet, from 0, names.
 fn spare_subfield(bytes: &[u8], rows: usize, index: usize) -> Option<u8>
-    requires octet { index < 5 }
+    requires octet { index < PRESENCE_ROOM }
     requires few { rows < 256 }
     ensures { result ≡ spare_subfield bytes.now rows index }
 {

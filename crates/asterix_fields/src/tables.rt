@@ -4,6 +4,8 @@ ghost use Rattle.std.specs.Prelude.{◌≡◌, ◌↔◌, ◌+◌, ◌≤◌, Is
 ghost use Rattle.std.specs.List.{list_all};
 ghost use Rattle.asterix_fields.specs.Tables.{has_length, has_rows, is_row, is_well_formed, rows_of, WellFormed};
 
+use crate::sizes::MOST_ITEMS;
+
 /// How an item's octets are laid out (ASTERIX Part 1, data item formats).
 #[derive(Clone, Copy, Debug, PartialEq, Eq)]
 pub enum Form {
@@ -40,7 +42,7 @@ pub fn well_formed<const N: usize, const M: usize>(uap: &Uap<N>, subs: &Subs<M>)
 fn are_well_formed(uap: &[Form], subs: &[Form]) -> bool
     ensures { result ≡ is_well_formed uap.now subs.now }
 {
-    uap.len() <= 35 && have_length(uap) && have_length(subs) && have_rows(subs, uap)
+    uap.len() <= MOST_ITEMS && have_length(uap) && have_length(subs) && have_rows(subs, uap)
 }
 
 fn have_length(forms: &[Form]) -> bool

@@ -10,8 +10,8 @@ returns-then-octet-eq0-clause-value c =
     let step = presence_step (λ _. None) (PastEnd 0) LongFspec c.args.bytes.now c.loop-index.index (omega arith) in
     grind (arith, common_steps, step)
 
-pub returns-then-index-eq4-clause-value : goal.returns-then-index-eq4-clause-value
-returns-then-index-eq4-clause-value c =
+pub returns-then-index-eq-PRESENCE_ROOM-clause-value : goal.returns-then-index-eq-PRESENCE_ROOM-clause-value
+returns-then-index-eq-PRESENCE_ROOM-clause-value c =
     let step = presence_step (λ _. None) (PastEnd 0) LongFspec c.args.bytes.now c.loop-index.index (omega arith) in
     grind (arith, common_steps, step)
 

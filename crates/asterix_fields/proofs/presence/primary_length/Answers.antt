@@ -13,14 +13,14 @@ pub returns-then-octet-eq0-clause-value : goal.returns-then-octet-eq0-clause-val
 returns-then-octet-eq0-clause-value c =
     sym (primary_last c.args.frn c.args.rows c.args.bytes.now c.loop-index.index (omega arith) (cc) (omega arith)) ∙ c.loop-index.invariant.same
 
-pub returns-then-index-eq4-clause-value : goal.returns-then-index-eq4-clause-value
-returns-then-index-eq4-clause-value c =
-    sym (primary_fifth c.args.frn c.args.rows c.args.bytes.now c.loop-index.index (omega arith) (cc) c.if-octet-eq0.false c.if-index-eq4.true) ∙ c.loop-index.invariant.same
+pub returns-then-index-eq-PRESENCE_ROOM-clause-value : goal.returns-then-index-eq-PRESENCE_ROOM-clause-value
+returns-then-index-eq-PRESENCE_ROOM-clause-value c =
+    sym (primary_fifth c.args.frn c.args.rows c.args.bytes.now c.loop-index.index (omega arith) (cc) c.if-octet-eq0.false c.if-index-eq-PRESENCE_ROOM.true) ∙ c.loop-index.invariant.same
 
 pub loop-index-preserved : goal.loop-index-preserved
 loop-index-preserved c = record {
   few = omega arith;
-  same = sym (primary_next c.args.frn c.args.rows c.args.bytes.now c.loop-index.index (omega arith) (cc) c.if-octet-eq0.false c.if-index-eq4.false) ∙ c.loop-index.invariant.same;
+  same = sym (primary_next c.args.frn c.args.rows c.args.bytes.now c.loop-index.index (omega arith) (cc) c.if-octet-eq0.false c.if-index-eq-PRESENCE_ROOM.false) ∙ c.loop-index.invariant.same;
 }
 
 pub returns-clause-value : goal.returns-clause-value

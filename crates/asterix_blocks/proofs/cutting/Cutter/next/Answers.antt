@@ -1,6 +1,12 @@
 use Rattle.std.proofs.Common.{ap, ◌+◌, ◌≤◌, length, arith}
-use Rattle.asterix_blocks.proofs.Framings.{Gives-found, Cuts-given, coming-none, Cuts-all, rest_from}
+use Rattle.std.proofs.lemmas.Result.{err_from_is_err_and}
+use Rattle.asterix_blocks.proofs.Framings.{Gives-found, Cuts-given, coming-none, coming-some, Cuts-all, rest_from}
 use Rattle.asterix_blocks.proofs.cutting.Cutter.next.Goals as goal
+
+pub returns-in_err-first_block-clause-memory : goal.returns-in_err-first_block-clause-memory
+returns-in_err-first_block-clause-memory c =
+    let p = err_from_is_err_and c.from_residual.result c.from_residual.ensures.1 in
+    rw p.1 (coming-some c.args.self.now _ c.self.inside.given c.self.inside.octets.items _ c.self.view_is (rest_from _ _ c.self.inside.given c.deref.ensures.value) c.in_err-first_block.ensures.memory)
 
 pub returns-in-None-clause-none : goal.returns-in-None-clause-none
 returns-in-None-clause-none c =
