@@ -1,5 +1,5 @@
 -- A body's records and its refusal, where reading stops, and where it goes on.
-use Rattle.std.proofs.Common.{◌≡◌, ◌==◌, true, false, ℕ, zero, suc, ◌+◌, ◌-◌, ◌<◌, ◌≤◌, List, [], ◌∷◌, ◌++◌, length, drop, Ok, Err, None, Some, refl, ap, sym, eqb-true, ◌∙◌, arith, append_assoc, length-drop}
+use Rattle.std.proofs.Common.{◌≡◌, ◌≢◌, ◌==◌, true, false, ℕ, zero, suc, ◌+◌, ◌-◌, ◌<◌, ◌≤◌, List, [], ◌∷◌, ◌++◌, length, drop, Result, Ok, Err, OnErr, None, Some, refl, ap, sym, eqb-true, ◌∙◌, arith, append_assoc, length-append, length-drop}
 use Rattle.std.proofs.lemmas.List.{append-nil}
 use Rattle.std.specs.List.{All}
 use Rattle.std.proofs.lemmas.List.Elements.{All-append, All-from_recursion}
@@ -19,10 +19,10 @@ pub stops_refused : (law : AllReadAsSpelled) (body rest : List ℕ) (done : List
     → 0 < length rest → reading rest ≡ Err f
     → (done ≡ records body) × (Some (record { offset = offset + (length body - length rest); fault = f }) ≡ refused_from offset (refusal body))
 unfolding refusal
-stops_refused law body rest done offset f told same some e =
+stops_refused law body rest done offset f same_records same some e =
     let end = read_end law rest f e in
     let left : left_of body ≡ rest = sym same ∙ end.1 in (
-      sym (append-nil done) ∙ ap (λ (later : List Raw062). done ++ later) (sym end.0) ∙ told,
+      sym (append-nil done) ∙ ap (λ (later : List Raw062). done ++ later) (sym end.0) ∙ same_records,
       sym (ap (λ (l : List ℕ). refused_from offset (refused_at (length body) l)) left ∙ refused_some rest (length body) offset f some e),
     )
 
@@ -33,29 +33,41 @@ empty_read (octet ∷ more) h = absurd (omega arith)
 pub stops_whole : (body rest : List ℕ) (done : List Raw062) (offset : ℕ) → done ++ records rest ≡ records body → left_of rest ≡ left_of body → length rest ≡ 0
     → (done ≡ records body) × (None ≡ refused_from offset (refusal body))
 unfolding refusal
-stops_whole body rest done offset told same none =
+stops_whole body rest done offset same_records same none =
     let end = empty_read rest none in
     let left : left_of body ≡ [] = sym same ∙ end.1 in (
-      sym (append-nil done) ∙ ap (λ (later : List Raw062). done ++ later) (sym end.0) ∙ told,
+      sym (append-nil done) ∙ ap (λ (later : List Raw062). done ++ later) (sym end.0) ∙ same_records,
       sym (ap (λ (l : List ℕ). refused_from offset (refused_at (length body) l)) left),
     )
 
 pub record GoesOn (body rest : List ℕ) (done : List Raw062) (raw : Raw062) (size : ℕ) : Type 0 where
-  pub told : (done ++ raw ∷ []) ++ records (drop size rest) ≡ records body
+  pub same_records : (done ++ raw ∷ []) ++ records (drop size rest) ≡ records body
   pub same_left : left_of (drop size rest) ≡ left_of body
   pub fewer : length (drop size rest) < length rest
 
 pub goes_on : (law : AllReadAsSpelled) (body rest : List ℕ) (done : List Raw062) (raw : Raw062) (size : ℕ) → done ++ records rest ≡ records body → left_of rest ≡ left_of body
     → 0 < length rest → reading rest ≡ Ok (raw, size) → GoesOn body rest done raw size
-goes_on law body rest done raw size told same some e =
+goes_on law body rest done raw size same_records same some e =
     let more = read_more law rest (raw, size) e in
     let one : 1 ≤ size = size_some law rest (raw, size) e in
     let left : length (drop size rest) ≡ length rest - size = length-drop size rest in
     record {
-      told = append_assoc done (raw ∷ []) (records (drop size rest)) ∙ ap (λ (later : List Raw062). done ++ later) (sym more.0) ∙ told;
+      same_records = append_assoc done (raw ∷ []) (records (drop size rest)) ∙ ap (λ (later : List Raw062). done ++ later) (sym more.0) ∙ same_records;
       same_left = sym more.1 ∙ same;
       fewer = omega arith;
     }
+
+-- a body of which a record is read has records
+pub goes_on-some : (law : AllReadAsSpelled) (body rest : List ℕ) (done : List Raw062) (raw : Raw062) (size : ℕ) → done ++ records rest ≡ records body → left_of rest ≡ left_of body
+    → 0 < length rest → reading rest ≡ Ok (raw, size) → records body ≢ []
+goes_on-some law body rest done raw size same_records same some e = λ none.
+    let on = goes_on law body rest done raw size same_records same some e in
+    absurd (omega (arith, ap length (on.same_records ∙ none), length-append (done ++ raw ∷ []) (records (drop size rest)), length-append done (raw ∷ [])))
+
+-- what holds whatever was answered
+pub on_err : {X E P : Type 0} (r : Result X E) → P → OnErr r P
+on_err (Ok x) h = tt
+on_err (Err e) h = h
 
 pub some_left : (n : ℕ) → false ≡ (n == 0) → 0 < n
 some_left zero h = absurd (cc)

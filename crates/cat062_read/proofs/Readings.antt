@@ -88,7 +88,7 @@ module _ (law : AllReadAsSpelled) where
   what_is_read bytes r e =
       let s = record_found bytes r e in
       let w = (law CAT062.0 SUBS062.0 tables_good).found bytes s.0 s.1 in
-      subst (λ (q : Raw062 × ℕ). IsFront bytes q.0 q.1) s.2 (record { items = texts_at bytes s.0.0; spelled = w.spelled; told = refl; inside = w.inside })
+      subst (λ (q : Raw062 × ℕ). IsFront bytes q.0 q.1) s.2 (record { items = texts_at bytes s.0.0; spelled = w.spelled; read = refl; inside = w.inside })
 
   pub reading_again : (text more : List ℕ) (items : List (List ℕ)) → Spells062 text items → reading (text ++ more) ≡ Ok (contents items, length text)
   unfolding reading Spells062

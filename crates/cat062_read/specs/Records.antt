@@ -1,5 +1,5 @@
 -- The records of a body, and what is refused behind them (ASTERIX part 9; what is read of a record is this project's profile).
-use Rattle.std.specs.Prelude.{◌≡◌, ℕ, zero, suc, ◌+◌, ◌-◌, List, [], ◌∷◌, ◌++◌, ◌≤◌, length, take, drop, Option, Some, None, Result, Ok, Err}
+use Rattle.std.specs.Prelude.{◌≡◌, ℕ, zero, suc, ◌+◌, ◌-◌, List, [], ◌∷◌, ◌++◌, ◌≤◌, length, take, drop, map, Option, Some, None, Result, Ok, Err}
 use Rattle.std.specs.Option.{option_map}
 use Rattle.asterix_fields.specs.declared.fault.ItemFault.{ItemFault}
 use Rattle.asterix_fields.specs.Spelling.{Spells, joined, texts_at}
@@ -26,8 +26,12 @@ IsFirstFault062 bytes found = IsFirstFault CAT062.0 SUBS062.0 bytes found
 pub record IsFront (bytes : List ℕ) (raw : Raw062) (size : ℕ) : Type 0 where
   pub items : List (List ℕ)
   pub spelled : Spells062 (take size bytes) items
-  pub told : raw ≡ contents items
+  pub read : raw ≡ contents items
   pub inside : size ≤ length bytes
+
+-- whatever record the octets begin with, it is read: its contents, and as many octets
+abbrev pub ReadsSpelled : List ℕ → Result (Raw062 × ℕ) ItemFault → Type 0
+ReadsSpelled bytes read = (text rest : List ℕ) (items : List (List ℕ)) → Spells062 text items → bytes ≡ text ++ rest → read ≡ Ok (contents items, length text)
 
 -- no record stands at the front
 abbrev pub BeginsNone : List ℕ → Type 0
@@ -45,6 +49,10 @@ pub record IsRead (body : List ℕ) (texts : List (List ℕ)) (items : List (Lis
   pub whole : body ≡ joined texts ++ rest
   pub spelled : AllSpelled texts items
   pub stops : BeginsNone rest
+
+-- the body can be read so
+abbrev pub HasReading : List ℕ → Type 0
+HasReading body = (texts : List (List ℕ)) × (items : List (List (List ℕ))) × (rest : List ℕ) × IsRead body texts items rest
 
 -- What is refused of a body whose records end at this place: nothing where nothing is left; else the rest, with its first fault.
 abbrev pub IsRefusal : List ℕ → ℕ → Option (ℕ × ItemFault) → Type 0
@@ -84,3 +92,8 @@ refusal body = refused_at (length body) (left_of body)
 -- the same with the place in the feed, of a body that stands at this offset
 abbrev pub refused_from : ℕ → Option (ℕ × ItemFault) → Option Refused
 refused_from offset refused = option_map (λ r. record { offset = offset + r.0; fault = r.1 }) refused
+
+-- however the body is read, its records are those, and this is refused of it
+abbrev pub HasOneReading : List ℕ → Type 0
+HasOneReading body = (texts : List (List ℕ)) (items : List (List (List ℕ))) (rest : List ℕ) → IsRead body texts items rest
+    → (records body ≡ map contents items) × IsRefusal rest (length (joined texts)) (refusal body)

@@ -1,14 +1,11 @@
 -- The track that a record tells of (the contents are those of ASTERIX part 9; what is taken and what counts where it is absent is this project's profile).
-use Rattle.std.specs.Prelude.{◌≡◌, ℕ, ◌%◌, ◌^◌, ◌≤◌, Bool, ◌&&◌, ◌||◌, Option, Some, None, is_some, unwrap_or, IfSome, pos, ◌+ℤ◌, if◌then◌else◌}
+use Rattle.std.specs.Prelude.{◌≡◌, ◌%◌, ◌^◌, ◌≤◌, Bool, ◌&&◌, ◌||◌, Option, Some, None, is_some, unwrap_or, IfSome, pos, ◌+ℤ◌, if◌then◌else◌}
 use Rattle.std.proofs.Common.{ℤ, ◌-ℤ◌}
 use Rattle.std.specs.Option.{option_map}
 use Rattle.std.specs.Int.RustNames.{unsigned_abs}
 use Rattle.cat062_read.specs.declared.record.Raw062.{Raw062}
+use Rattle.cat062_read.specs.declared.track.TheConstants.{TICKS_PER_DAY}
 use Rattle.cat062_read.specs.declared.track.Track.{Track}
-
--- ticks of 1/128 s in a day
-abbrev pub ticks_per_day : ℕ
-ticks_per_day = 11059200
 
 -- it says whose it is, which track and when, and where, or that it is the track's last message
 abbrev pub is_usable : Raw062 → Bool
@@ -25,14 +22,14 @@ altitude_of level None qnh = option_map (λ z. z +ℤ qnh) (level_of level None 
 altitude_of level (Some b) qnh = if b.0 then Some b.1 else option_map (λ z. z +ℤ qnh) (level_of level (Some b) qnh)
 
 -- the track of a usable record
-abbrev pub told_track : Raw062 → ℤ → Track
-told_track raw qnh = record {
+abbrev pub track_from : Raw062 → ℤ → Track
+track_from raw qnh = record {
   key = record {
     sac = (unwrap_or raw.source (0, 0)).0;
     sic = (unwrap_or raw.source (0, 0)).1;
     number = unwrap_or raw.number 0;
   };
-  time = unwrap_or raw.time 0 % ticks_per_day;
+  time = unwrap_or raw.time 0 % TICKS_PER_DAY;
   x = (unwrap_or raw.xy (pos 0, pos 0)).0;
   y = (unwrap_or raw.xy (pos 0, pos 0)).1;
   vx = (unwrap_or raw.speed (pos 0, pos 0)).0;
@@ -48,7 +45,7 @@ told_track raw qnh = record {
 
 -- the track that a record tells of, if it is usable
 abbrev pub track_of : Raw062 → ℤ → Option Track
-track_of raw qnh = if is_usable raw then Some (told_track raw qnh) else None
+track_of raw qnh = if is_usable raw then Some (track_from raw qnh) else None
 
 -- a position within the 24 bits of item 100
 abbrev pub IsInPlane : ℤ → ℤ → Type 0
@@ -58,8 +55,16 @@ IsInPlane x y = (unsigned_abs x ≤ 2 ^ 23) × (unsigned_abs y ≤ 2 ^ 23)
 abbrev pub IsPlaced : Raw062 → Type 0
 IsPlaced raw = IfSome raw.xy (λ xy. IsInPlane xy.0 xy.1)
 
--- a level or an altitude is within 40,000 of 0, and the one is there exactly where the other is
+-- a site's QNH correction is within 200 of 0
+abbrev pub IsQnh : ℤ → Type 0
+IsQnh qnh = unsigned_abs qnh ≤ 200
+
+-- a level or an altitude is within 40,000 of 0
+abbrev pub IsHeight : ℤ → Type 0
+IsHeight z = unsigned_abs z ≤ 40000
+
+-- the level and the altitude of a track are such, and the one is there exactly where the other is
 pub record IsLevelled (track : Track) : Type 0 where
-  pub level : IfSome track.level (λ z. unsigned_abs z ≤ 40000)
-  pub altitude : IfSome track.altitude (λ z. unsigned_abs z ≤ 40000)
+  pub level : IfSome track.level IsHeight
+  pub altitude : IfSome track.altitude IsHeight
   pub both : is_some track.level ≡ is_some track.altitude

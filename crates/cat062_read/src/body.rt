@@ -1,5 +1,5 @@
 //! The records of a block's body.
-ghost use Rattle.std.specs.Prelude.{◌≡◌, ◌≤◌, ◌^◌, IfOk, All, length};
+ghost use Rattle.std.specs.Prelude.{◌≡◌, ◌≢◌, ◌≤◌, [], IfOk, OnErr, All, length};
 ghost use Rattle.cat062_read.specs.Records.{records, refusal, refused_from};
 ghost use Rattle.cat062_read.specs.Tracks.{IsPlaced};
 
@@ -7,10 +7,14 @@ use crate::reading::read_record;
 use crate::record::Raw062;
 use asterix_fields::ItemFault;
 use asterix_fields::laws::read_as_spelled;
+use asterix_fields::sizes::BLOCK_ROOM;
 use std::alloc::{AllocError, Global};
 
 /// Want of memory.
 pub type NoMemory = AllocError;
+
+/// The last place in a feed at which a body may begin.
+pub const LAST_PLACE: u64 = 1 << 40;
 
 /// Where octets begin no record: the place in the feed of the first of them, and their first fault.
 #[derive(Clone, Copy, Debug, PartialEq, Eq)]
@@ -28,11 +32,14 @@ pub struct BlockRead {
 
 /// Reads the body of a block of category 62, whose first octet stands at this place in the feed.
 pub fn read_block(alloc: Global, body: &[u8], offset: u64) -> Result<BlockRead, NoMemory>
-    requires room { length body.now ≤ 65535 }
-    requires early { offset ≤ 2 ^ 40 }
+    requires room { length body.now ≤ BLOCK_ROOM }
+    requires early { offset ≤ LAST_PLACE }
     ensures records { IfOk result (λ read. read.records.items ≡ records body.now) }
     ensures refused { IfOk result (λ read. read.refused ≡ refused_from offset (refusal body.now)) }
     ensures placed { IfOk result (λ read. All IsPlaced read.records.items) }
+
+    // Memory is wanted only for a record: a body that is refused at its first takes none.
+    ensures memory { OnErr result (records body.now ≢ []) }
 {
     // The proof takes this law; the call does nothing.
     read_as_spelled();

@@ -1,14 +1,14 @@
 //! What the items that the profile uses say. An absent item has no octet, and then says nothing.
 ghost use Rattle.std.specs.Prelude.{◌≡◌, ◌<◌, ◌^◌, IfSome, slice_index};
 ghost use Rattle.asterix_fields.specs.Numbers.{twos_complement};
-ghost use Rattle.cat062_read.specs.Contents.{source as told_source, number as told_number, time as told_time, position as told_position, wgs as told_wgs, speed as told_speed, acceleration as told_acceleration, signed as told_signed, barometric as told_barometric, code as told_code, is_tentative as told_tentative, is_simulated as told_simulated, is_ended as told_ended};
+ghost use Rattle.cat062_read.specs.Contents.{acceleration, barometric, code, is_ended, is_simulated, is_tentative, number, position, signed, source, speed, time, wgs};
 ghost use Rattle.cat062_read.specs.Tracks.{IsInPlane};
 
 use asterix_fields::{be16, be24, signed16, signed24, signed32};
 
 /// 010: the system area code and the system identification code.
 pub fn source(text: &[u8]) -> Option<(u8, u8)>
-    ensures { result ≡ told_source text.now }
+    ensures { result ≡ source text.now }
 {
     match text {
         [sac, sic] => Some((*sac, *sic)),
@@ -18,7 +18,7 @@ pub fn source(text: &[u8]) -> Option<(u8, u8)>
 
 /// 040: the track number.
 pub fn number(text: &[u8]) -> Option<u16>
-    ensures { result ≡ told_number text.now }
+    ensures { result ≡ number text.now }
 {
     match text {
         [high, low] => Some(be16([*high, *low])),
@@ -28,7 +28,7 @@ pub fn number(text: &[u8]) -> Option<u16>
 
 /// 070: the time of day in 1/128 s, as written.
 pub fn time(text: &[u8]) -> Option<u32>
-    ensures { result ≡ told_time text.now }
+    ensures { result ≡ time text.now }
 {
     match text {
         [high, middle, low] => Some(be24([*high, *middle, *low])),
@@ -38,7 +38,7 @@ pub fn time(text: &[u8]) -> Option<u32>
 
 /// 100: X and Y in 0.5 m.
 pub fn position(text: &[u8]) -> Option<(i32, i32)>
-    ensures value { result ≡ told_position text.now }
+    ensures value { result ≡ position text.now }
     ensures placed { IfSome result (λ xy. IsInPlane xy.0 xy.1) }
 {
     match text {
@@ -49,7 +49,7 @@ pub fn position(text: &[u8]) -> Option<(i32, i32)>
 
 /// 105: latitude and longitude in 180/2^25 degrees.
 pub fn wgs(text: &[u8]) -> Option<(i32, i32)>
-    ensures { result ≡ told_wgs text.now }
+    ensures { result ≡ wgs text.now }
 {
     match text {
         [a, b, c, d, e, f, g, h] => Some((signed32([*a, *b, *c, *d]), signed32([*e, *f, *g, *h]))),
@@ -59,7 +59,7 @@ pub fn wgs(text: &[u8]) -> Option<(i32, i32)>
 
 /// 185: Vx and Vy in 0.25 m/s.
 pub fn speed(text: &[u8]) -> Option<(i16, i16)>
-    ensures { result ≡ told_speed text.now }
+    ensures { result ≡ speed text.now }
 {
     match text {
         [a, b, c, d] => Some((signed16([*a, *b]), signed16([*c, *d]))),
@@ -69,7 +69,7 @@ pub fn speed(text: &[u8]) -> Option<(i16, i16)>
 
 /// 210: Ax and Ay in 0.25 m/s^2.
 pub fn acceleration(text: &[u8]) -> Option<(i8, i8)>
-    ensures { result ≡ told_acceleration text.now }
+    ensures { result ≡ acceleration text.now }
 {
     match text {
         [x, y] => Some((x.cast_signed(), y.cast_signed())),
@@ -79,7 +79,7 @@ pub fn acceleration(text: &[u8]) -> Option<(i8, i8)>
 
 /// 136 in 25 ft, and 220 in 6.25 ft/min.
 pub fn signed(text: &[u8]) -> Option<i16>
-    ensures { result ≡ told_signed text.now }
+    ensures { result ≡ signed text.now }
 {
     match text {
         [high, low] => Some(signed16([*high, *low])),
@@ -89,7 +89,7 @@ pub fn signed(text: &[u8]) -> Option<i16>
 
 /// 135: whether QNH correction is applied, and the altitude in 25 ft.
 pub fn barometric(text: &[u8]) -> Option<(bool, i16)>
-    ensures { result ≡ told_barometric text.now }
+    ensures { result ≡ barometric text.now }
 {
     match text {
         [high, low] => {
@@ -114,7 +114,7 @@ fn signed15(value: u16) -> i16
 
 /// 060: the Mode 3/A code, 12 bits.
 pub fn code(text: &[u8]) -> Option<u16>
-    ensures { result ≡ told_code text.now }
+    ensures { result ≡ code text.now }
 {
     match text {
         [high, low] => Some(be16([*high, *low]) % 4096),
@@ -124,21 +124,21 @@ pub fn code(text: &[u8]) -> Option<u16>
 
 /// 080: bit 2 of the first octet (CNF), the track is tentative.
 pub fn is_tentative(text: &[u8]) -> bool
-    ensures { result ≡ told_tentative text.now }
+    ensures { result ≡ is_tentative text.now }
 {
     octet(text, 0) / 2 % 2 == 1
 }
 
 /// 080: bit 8 of the first extension (SIM), the track is simulated.
 pub fn is_simulated(text: &[u8]) -> bool
-    ensures { result ≡ told_simulated text.now }
+    ensures { result ≡ is_simulated text.now }
 {
     octet(text, 1) / 128 % 2 == 1
 }
 
 /// 080: bit 7 of the first extension (TSE), this is the last message for the track.
 pub fn is_ended(text: &[u8]) -> bool
-    ensures { result ≡ told_ended text.now }
+    ensures { result ≡ is_ended text.now }
 {
     octet(text, 1) / 64 % 2 == 1
 }

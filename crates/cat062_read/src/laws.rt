@@ -1,15 +1,12 @@
 //! Laws of a body's records: each is the contract of a function that does nothing.
-ghost use Rattle.std.specs.Prelude.{◌≡◌, ℕ, List, length, map};
-ghost use Rattle.asterix_fields.specs.Spelling.{joined};
-ghost use Rattle.cat062_read.specs.Contents.{contents};
-ghost use Rattle.cat062_read.specs.Records.{IsRead, IsRefusal, records, refusal};
+ghost use Rattle.std.specs.Prelude.{ℕ, List};
+ghost use Rattle.cat062_read.specs.Records.{HasOneReading, HasReading};
 
 use asterix_fields::laws::read_as_spelled;
 
 /// Each body can be read as records and a rest that begins none.
 pub fn some_reading()
-    ensures { (body : List ℕ) →
-        (texts : List (List ℕ)) × (items : List (List (List ℕ))) × (rest : List ℕ) × IsRead body texts items rest }
+    ensures { (body : List ℕ) → HasReading body }
 {
     read_as_spelled();
 }
@@ -17,9 +14,7 @@ pub fn some_reading()
 /// However a body is read, its records are those of the definition, and so is what is refused of it. So no
 /// two readings of a body differ in what is read or in what is refused.
 pub fn one_reading()
-    ensures { (body : List ℕ) (texts : List (List ℕ)) (items : List (List (List ℕ))) (rest : List ℕ) →
-        IsRead body texts items rest →
-        (records body ≡ map contents items) × IsRefusal rest (length (joined texts)) (refusal body) }
+    ensures { (body : List ℕ) → HasOneReading body }
 {
     read_as_spelled();
 }

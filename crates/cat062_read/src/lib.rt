@@ -9,10 +9,10 @@ pub mod record;
 pub mod table;
 pub mod track;
 
-pub use body::{BlockRead, NoMemory, Refused, read_block};
+pub use body::{BlockRead, LAST_PLACE, NoMemory, Refused, read_block};
 pub use reading::read_record;
 pub use record::Raw062;
-pub use table::{CAT062, SUBS062, tables_hold};
+pub use table::{CAT062, CATEGORY, SUBS062, tables_hold};
 pub use track::{TICKS_PER_DAY, Track, TrackKey, track_of};
 
 #[cfg(test)]

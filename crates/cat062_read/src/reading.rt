@@ -1,15 +1,16 @@
 //! The record that octets begin with.
-ghost use Rattle.std.specs.Prelude.{◌≡◌, ◌≤◌, ◌<◌, ◌+◌, ◌-◌, ◌++◌, ℕ, List, IfOk, All, length, slice_index_or};
+ghost use Rattle.std.specs.Prelude.{◌≡◌, ◌≤◌, ◌+◌, IfOk, All, length};
 ghost use Rattle.asterix_fields.specs.Spelling.{texts_at};
 ghost use Rattle.asterix_fields.specs.Faults.{fault_of};
-ghost use Rattle.cat062_read.specs.Contents.{contents, item};
-ghost use Rattle.cat062_read.specs.Records.{Spells062, IsFront, fault062, reading};
+ghost use Rattle.cat062_read.specs.Contents.{item};
+ghost use Rattle.cat062_read.specs.Records.{IsFront, ReadsSpelled, fault062, reading};
 ghost use Rattle.cat062_read.specs.Tracks.{IsPlaced};
 
 use crate::item;
 use crate::record::Raw062;
 use crate::table::{CAT062, SUBS062};
 use asterix_fields::laws::read_as_spelled;
+use asterix_fields::sizes::BLOCK_ROOM;
 use asterix_fields::{ItemFault, Span, walk};
 
 // What is read of a record: each field from the octets of the item of its FRN.
@@ -20,15 +21,14 @@ macro_rules! contents {
 }
 
 /// The record that the octets begin with, and how many octets it has; others may follow. Where they begin
-/// no record, the first fault. No memory is taken.
+/// no record, the first fault.
 pub fn read_record(bytes: &[u8]) -> Result<(Raw062, usize), ItemFault>
-    requires { length bytes.now ≤ 65535 }
+    requires { length bytes.now ≤ BLOCK_ROOM }
 
     // What is read is spelled so.
     ensures spelled { IfOk result (λ found. IsFront bytes.now found.0 found.1) }
     // What is spelled is read, whatever follows it; so where there is a fault no record is spelled.
-    ensures only { (text rest : List ℕ) (items : List (List ℕ)) → Spells062 text items →
-        bytes.now ≡ text ++ rest → result ≡ Ok (contents items, length text) }
+    ensures only { ReadsSpelled bytes.now result }
     ensures fault { fault_of result ≡ fault062 bytes.now }
     ensures reading { result ≡ reading bytes.now }
     ensures placed { IfOk result (λ found. IsPlaced found.0) }

@@ -5,214 +5,118 @@ ghost use Rattle.asterix_fields.specs.Tables.{WellFormed};
 use asterix_fields::Form::{Compound, Explicit, Extended, Fixed, Repeat, Spare};
 use asterix_fields::{Subs, Uap, well_formed};
 
-/// The items of category 062 by FRN, each with its form (ASTERIX part 9).
-pub const CAT062: Uap<35> = Uap([
-    // 010
-    Fixed(2),
-    Spare,
-    // 015
-    Fixed(1),
-    // 070
-    Fixed(3),
-    // 105
-    Fixed(8),
-    // 100
-    Fixed(6),
-    // 185
-    Fixed(4),
-    // 210
-    Fixed(2),
-    // 060
-    Fixed(2),
-    // 245
-    Fixed(7),
-    // 380
-    Compound {
-        first: 0,
-        count: 28,
-    },
-    // 040
-    Fixed(2),
-    // 080
-    Extended(1),
-    // 290
-    Compound {
-        first: 28,
-        count: 10,
-    },
-    // 200
-    Fixed(1),
-    // 295
-    Compound {
-        first: 38,
-        count: 31,
-    },
-    // 136
-    Fixed(2),
-    // 130
-    Fixed(2),
-    // 135
-    Fixed(2),
-    // 220
-    Fixed(2),
-    // 390
-    Compound {
-        first: 69,
-        count: 18,
-    },
-    // 270
-    Extended(1),
-    // 300
-    Fixed(1),
-    // 110
-    Compound {
-        first: 87,
-        count: 7,
-    },
-    // 120
-    Fixed(2),
-    // 510
-    Extended(3),
-    // 500
-    Compound {
-        first: 94,
-        count: 8,
-    },
-    // 340
-    Compound {
-        first: 102,
-        count: 6,
-    },
-    Spare,
-    Spare,
-    Spare,
-    Spare,
-    Spare,
-    // RE
-    Explicit,
-    // SP
-    Explicit,
-]);
+/// The category of system tracks.
+pub const CATEGORY: u8 = 62;
 
-/// The subfields of its compound items, one item's after the other's. Subfield 8 of 380 is taken as one
-/// octet, which is this project's profile.
-pub const SUBS062: Subs<108> = Subs([
-    // 380
-    Fixed(3),
-    Fixed(6),
-    Fixed(2),
-    Fixed(2),
-    Fixed(2),
-    Fixed(2),
-    Fixed(2),
-    Fixed(1),
-    Repeat(15),
-    Fixed(2),
-    Fixed(2),
-    Fixed(7),
-    Fixed(2),
-    Fixed(2),
-    Fixed(2),
-    Fixed(2),
-    Fixed(2),
-    Fixed(2),
-    Fixed(1),
-    Fixed(8),
-    Fixed(1),
-    Fixed(6),
-    Fixed(2),
-    Fixed(1),
-    Repeat(8),
-    Fixed(2),
-    Fixed(2),
-    Fixed(2),
-    // 290
-    Fixed(1),
-    Fixed(1),
-    Fixed(1),
-    Fixed(1),
-    Fixed(2),
-    Fixed(1),
-    Fixed(1),
-    Fixed(1),
-    Fixed(1),
-    Fixed(1),
-    // 295
-    Fixed(1),
-    Fixed(1),
-    Fixed(1),
-    Fixed(1),
-    Fixed(1),
-    Fixed(1),
-    Fixed(1),
-    Fixed(1),
-    Fixed(1),
-    Fixed(1),
-    Fixed(1),
-    Fixed(1),
-    Fixed(1),
-    Fixed(1),
-    Fixed(1),
-    Fixed(1),
-    Fixed(1),
-    Fixed(1),
-    Fixed(1),
-    Fixed(1),
-    Fixed(1),
-    Fixed(1),
-    Fixed(1),
-    Fixed(1),
-    Fixed(1),
-    Fixed(1),
-    Fixed(1),
-    Fixed(1),
-    Fixed(1),
-    Fixed(1),
-    Fixed(1),
-    // 390
-    Fixed(2),
-    Fixed(7),
-    Fixed(4),
-    Fixed(1),
-    Fixed(4),
-    Fixed(1),
-    Fixed(4),
-    Fixed(4),
-    Fixed(3),
-    Fixed(2),
-    Fixed(2),
-    Repeat(4),
-    Fixed(6),
-    Fixed(1),
-    Fixed(7),
-    Fixed(7),
-    Fixed(2),
-    Fixed(7),
-    // 110
-    Fixed(1),
-    Fixed(4),
-    Fixed(6),
-    Fixed(2),
-    Fixed(2),
-    Fixed(1),
-    Fixed(1),
-    // 500
-    Fixed(4),
-    Fixed(2),
-    Fixed(4),
-    Fixed(1),
-    Fixed(1),
-    Fixed(2),
-    Fixed(2),
-    Fixed(1),
-    // 340
-    Fixed(2),
-    Fixed(4),
-    Fixed(2),
-    Fixed(2),
-    Fixed(2),
-    Fixed(1),
-]);
+// The items by FRN, seven to an octet of the FSPEC: each with its number in ASTERIX part 9 and its form, a
+// compound one with the lengths of its subfields from subfield 1 on, seven to a primary octet. `repeat n` is a
+// count and so many groups of n octets. That subfield 8 of 380 is one octet is this project's profile.
+macro_rules! category_062 {
+    ($build:ident) => {
+        $build! {
+            (010, Fixed 2),
+            (spare, Spare),
+            (015, Fixed 1),
+            (070, Fixed 3),
+            (105, Fixed 8),
+            (100, Fixed 6),
+            (185, Fixed 4),
+
+            (210, Fixed 2),
+            (060, Fixed 2),
+            (245, Fixed 7),
+            (380, Compound [3, 6, 2, 2, 2, 2, 2, 1, repeat 15, 2, 2, 7, 2, 2, 2, 2, 2, 2, 1, 8, 1, 6, 2, 1, repeat 8, 2, 2, 2]),
+            (040, Fixed 2),
+            (080, Extended 1),
+            (290, Compound [1, 1, 1, 1, 2, 1, 1, 1, 1, 1]),
+
+            (200, Fixed 1),
+            (295, Compound [1, 1, 1, 1, 1, 1, 1, 1, 1, 1, 1, 1, 1, 1, 1, 1, 1, 1, 1, 1, 1, 1, 1, 1, 1, 1, 1, 1, 1, 1, 1]),
+            (136, Fixed 2),
+            (130, Fixed 2),
+            (135, Fixed 2),
+            (220, Fixed 2),
+            (390, Compound [2, 7, 4, 1, 4, 1, 4, 4, 3, 2, 2, repeat 4, 6, 1, 7, 7, 2, 7]),
+
+            (270, Extended 1),
+            (300, Fixed 1),
+            (110, Compound [1, 4, 6, 2, 2, 1, 1]),
+            (120, Fixed 2),
+            (510, Extended 3),
+            (500, Compound [4, 2, 4, 1, 1, 2, 2, 1]),
+            (340, Compound [2, 4, 2, 2, 2, 1]),
+
+            (spare, Spare),
+            (spare, Spare),
+            (spare, Spare),
+            (spare, Spare),
+            (spare, Spare),
+            (RE, Explicit),
+            (SP, Explicit),
+        }
+    };
+}
+
+// How many subfields these are.
+macro_rules! count {
+    ($($size:literal)*) => { 0 $(+ one!($size))* };
+}
+
+macro_rules! one {
+    ($size:literal) => {
+        1
+    };
+}
+
+// The forms of a table's items. The subfields of a compound one stand behind those of the compounds before it.
+macro_rules! items {
+    (@ [$($form:expr,)*] $first:expr;) => {
+        [$($form),*]
+    };
+    (@ [$($form:expr,)*] $first:expr; ($item:tt, Compound [$($($repeat:ident)? $size:literal),*]), $($rest:tt)*) => {
+        items!(@ [$($form,)* Compound { first: $first, count: count!($($size)*) },] $first + count!($($size)*); $($rest)*)
+    };
+    (@ [$($form:expr,)*] $first:expr; ($item:tt, $kind:ident $size:literal), $($rest:tt)*) => {
+        items!(@ [$($form,)* $kind($size),] $first; $($rest)*)
+    };
+    (@ [$($form:expr,)*] $first:expr; ($item:tt, $kind:ident), $($rest:tt)*) => {
+        items!(@ [$($form,)* $kind,] $first; $($rest)*)
+    };
+    ($($table:tt)*) => {
+        items!(@ [] 0; $($table)*)
+    };
+}
+
+// The forms of the subfields of a table's compound items, one item's after the other's.
+macro_rules! subfields {
+    (@ [$($form:expr,)*]) => {
+        [$($form),*]
+    };
+    (@ [$($form:expr,)*] ($item:tt, Compound [$($($repeat:ident)? $size:literal),*]), $($rest:tt)*) => {
+        subfields!(@ [$($form,)* $(subfield!($($repeat)? $size),)*] $($rest)*)
+    };
+    (@ [$($form:expr,)*] $row:tt, $($rest:tt)*) => {
+        subfields!(@ [$($form,)*] $($rest)*)
+    };
+    ($($table:tt)*) => {
+        subfields!(@ [] $($table)*)
+    };
+}
+
+macro_rules! subfield {
+    (repeat $size:literal) => {
+        Repeat($size)
+    };
+    ($size:literal) => {
+        Fixed($size)
+    };
+}
+
+/// The items of category 062 by FRN, each with its form.
+pub const CAT062: Uap<35> = Uap(category_062!(items));
+
+/// The subfields of its compound items, one item's after the other's.
+pub const SUBS062: Subs<108> = Subs(category_062!(subfields));
 
 // Whether a category's tables, each with its subfields, are well formed.
 macro_rules! hold {

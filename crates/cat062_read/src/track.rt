@@ -1,7 +1,7 @@
 //! The track that a record tells of.
 ghost use Rattle.std.specs.Prelude.{◌≡◌, ◌≤◌, IfSome, is_some};
 ghost use Rattle.std.specs.Int.RustNames.{unsigned_abs};
-ghost use Rattle.cat062_read.specs.Tracks.{IsInPlane, IsLevelled, IsPlaced, track_of as told, level_of as told_level, altitude_of as told_altitude};
+ghost use Rattle.cat062_read.specs.Tracks.{IsHeight, IsInPlane, IsLevelled, IsPlaced, IsQnh, altitude_of, level_of, track_of};
 
 use crate::record::Raw062;
 
@@ -49,8 +49,8 @@ pub struct Track {
 /// record isn't usable: it lacks its source, its number, its time, or a position without being the
 /// track's last message.
 pub fn track_of(raw: &Raw062, qnh: i32) -> Option<Track>
-    requires { unsigned_abs qnh ≤ 200 }
-    ensures track { result ≡ told raw.now qnh }
+    requires { IsQnh qnh }
+    ensures track { result ≡ track_of raw.now qnh }
     ensures placed { IsPlaced raw.now → IfSome result (λ track. IsInPlane track.x track.y) }
     ensures levelled { IfSome result IsLevelled }
 {
@@ -81,8 +81,8 @@ pub fn track_of(raw: &Raw062, qnh: i32) -> Option<Track>
 
 /// The flight level, else the barometric altitude without its QNH correction.
 fn level_of(raw: &Raw062, qnh: i32) -> Option<i32>
-    requires { unsigned_abs qnh ≤ 200 }
-    ensures level { result ≡ told_level raw.now.flight_level raw.now.baro qnh }
+    requires { IsQnh qnh }
+    ensures level { result ≡ level_of raw.now.flight_level raw.now.baro qnh }
     ensures small { IfSome result (λ z. unsigned_abs z ≤ 32968) }
 {
     match (raw.flight_level, raw.baro) {
@@ -95,10 +95,10 @@ fn level_of(raw: &Raw062, qnh: i32) -> Option<i32>
 
 /// The corrected barometric altitude, else the level with the correction.
 fn altitude_of(raw: &Raw062, qnh: i32) -> Option<i32>
-    requires { unsigned_abs qnh ≤ 200 }
-    ensures altitude { result ≡ told_altitude raw.now.flight_level raw.now.baro qnh }
-    ensures small { IfSome result (λ z. unsigned_abs z ≤ 40000) }
-    ensures both { is_some result ≡ is_some (told_level raw.now.flight_level raw.now.baro qnh) }
+    requires { IsQnh qnh }
+    ensures altitude { result ≡ altitude_of raw.now.flight_level raw.now.baro qnh }
+    ensures small { IfSome result IsHeight }
+    ensures both { is_some result ≡ is_some (level_of raw.now.flight_level raw.now.baro qnh) }
 {
     if let Some((true, altitude)) = raw.baro {
         return Some(i32::from(altitude));

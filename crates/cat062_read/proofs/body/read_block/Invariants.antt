@@ -6,7 +6,7 @@ use Rattle.cat062_read.proofs.body.read_block.Given as goal
 
 abbrev pub invariant-loop-rest : goal.invariant-loop-rest
 invariant-loop-rest l = record {
-  told : l.records.items ++ records l.rest ≡ records l.body;
+  same_records : l.records.items ++ records l.rest ≡ records l.body;
   same_left : left_of l.rest ≡ left_of l.body;
   fewer : length l.rest ≤ length l.body;
   all_placed : All IsPlaced l.records.items;

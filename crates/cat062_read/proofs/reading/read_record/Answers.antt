@@ -22,8 +22,8 @@ returns-in_err-found-clause-reading c =
     rw (p.1, p.2) (sym (walk_fails c.args.bytes.now c.in_err-found.field-0.0 c.in_err-found.ensures.fault))
 
 -- the fields that were read are the contents of the items
-told : (c : goal.After-signed-2) → reading c.args.bytes.now ≡ Ok ((let raw : Raw062 = record { source = c.source.result; time = c.time.result; wgs = c.wgs.result; xy = c.position.result; speed = c.speed.result; accel = c.acceleration.result; code = c.code.result; number = c.number.result; tentative = c.is_tentative.result; simulated = c.is_simulated.result; ended = c.is_ended.result; flight_level = c.signed.result; baro = c.barometric.result; rate = c.signed-2.result } in raw), c.in_ok-found.found.length)
-told c =
+is_read : (c : goal.After-signed-2) → reading c.args.bytes.now ≡ Ok ((let raw : Raw062 = record { source = c.source.result; time = c.time.result; wgs = c.wgs.result; xy = c.position.result; speed = c.speed.result; accel = c.acceleration.result; code = c.code.result; number = c.number.result; tentative = c.is_tentative.result; simulated = c.is_simulated.result; ended = c.is_ended.result; flight_level = c.signed.result; baro = c.barometric.result; rate = c.signed-2.result } in raw), c.in_ok-found.found.length)
+is_read c =
     let texts : List (List ℕ) = texts_at c.args.bytes.now c.in_ok-found.found.spans in
     let source_is : c.source.result ≡ source (item texts 1) = c.source.ensures ∙ ap source c.text_of.ensures in
     let time_is : c.time.result ≡ time (item texts 4) = c.time.ensures ∙ ap time c.text_of-2.ensures in
@@ -43,13 +43,13 @@ told c =
     walk_is c.read_as_spelled.ensures c.args.bytes.now c.in_ok-found.found.spans c.in_ok-found.found.length c.in_ok-found.ensures.spelled ∙ ap (λ (raw : Raw062). Ok (raw, c.in_ok-found.found.length)) (sym same)
 
 pub returns-clause-spelled : goal.returns-clause-spelled
-returns-clause-spelled c = what_is_read c.read_as_spelled.ensures c.args.bytes.now _ (told c)
+returns-clause-spelled c = what_is_read c.read_as_spelled.ensures c.args.bytes.now _ (is_read c)
 
 pub returns-clause-only : goal.returns-clause-only
-returns-clause-only c = only_read c.read_as_spelled.ensures c.args.bytes.now _ (told c)
+returns-clause-only c = only_read c.read_as_spelled.ensures c.args.bytes.now _ (is_read c)
 
 pub returns-clause-fault : goal.returns-clause-fault
-returns-clause-fault c = sym (none_refused c.args.bytes.now _ (told c))
+returns-clause-fault c = sym (none_refused c.args.bytes.now _ (is_read c))
 
 pub returns-clause-reading : goal.returns-clause-reading
-returns-clause-reading c = sym (told c)
+returns-clause-reading c = sym (is_read c)
