@@ -3,7 +3,9 @@ use Rattle.std.proofs.Common.{◌≡◌, ℕ, ◌+◌, ◌≤◌, ◌<◌, List,
 use Rattle.std.specs.List.{concat, flat_map}
 use Rattle.std.proofs.lemmas.Bool.{leb-true, leb-false, le-leb}
 use Rattle.std.proofs.lemmas.List.Elements.{All-nil, All-cons, All-head, All-tail}
-use Rattle.cat004_write.specs.Blocks.{pack, pack_from, block, fits, header_length, block_room}
+use Rattle.asterix_fields.specs.declared.sizes.TheConstants.{HEADER_LENGTH}
+use Rattle.cat004_write.specs.declared.packer.TheConstants.{PACKED_ROOM}
+use Rattle.cat004_write.specs.Blocks.{pack, pack_from, block, fits}
 use Rattle.cat004_write.proofs.Packings.{last_block-some}
 use Rattle.cat004_write.specs.Grouping.{FitsBlock, IsInRoom, block_of, IsFull, AreFull, IsPacked}
 
@@ -17,12 +19,12 @@ record Continues (group messages : List (List ℕ)) (octets : List ℕ) : Type 0
   others : List (List (List ℕ))
   each : first ++ flat_map (λ (g : List (List ℕ)). g) others ≡ messages
   blocks : octets ≡ block_of (group ++ first) ++ flat_map block_of others
-  room : length (block_of (group ++ first)) ≤ block_room
+  room : length (block_of (group ++ first)) ≤ PACKED_ROOM
   rooms : All IsInRoom others
   full : IsFull (group ++ first) others
   fulls : AreFull others
 
-continues : (group messages : List (List ℕ)) (contents : List ℕ) → contents ≡ concat group → 0 < length contents → header_length + length contents ≤ block_room → All FitsBlock messages → Continues group messages (pack_from contents messages)
+continues : (group messages : List (List ℕ)) (contents : List ℕ) → contents ≡ concat group → 0 < length contents → HEADER_LENGTH + length contents ≤ PACKED_ROOM → All FitsBlock messages → Continues group messages (pack_from contents messages)
 continues group [] contents is some room fit =
     let whole : contents ≡ concat (group ++ []) = is ∙ ap concat (sym (append-nil group)) in
     record {
@@ -40,7 +42,7 @@ continues group (m ∷ messages) contents is some room fit =
       | true ↦ λ e.
           let joined : contents ++ m ≡ concat (group ++ m ∷ []) =
           ap (λ z. z ++ m) is ∙ ap (λ z. concat group ++ z) (sym (append-nil m)) ∙ sym (concat-append group (m ∷ [])) in
-          let fitting : header_length + length contents + length m ≤ block_room = leb-true (header_length + length contents + length m) block_room e in
+          let fitting : HEADER_LENGTH + length contents + length m ≤ PACKED_ROOM = leb-true (HEADER_LENGTH + length contents + length m) PACKED_ROOM e in
           let r : Continues (group ++ m ∷ []) messages (pack_from (contents ++ m) messages) =
           continues (group ++ m ∷ []) messages (contents ++ m) joined (omega (arith, length-append contents m)) (omega (arith, length-append contents m)) (All-tail FitsBlock m messages fit) in
           let regrouped : (group ++ m ∷ []) ++ r.first ≡ group ++ m ∷ r.first = append_assoc group (m ∷ []) r.first in
@@ -49,7 +51,7 @@ continues group (m ∷ messages) contents is some room fit =
             others = r.others;
             each = ap (λ z. m ∷ z) r.each;
             blocks = rw e (r.blocks ∙ ap (λ z. block_of z ++ flat_map block_of r.others) regrouped);
-            room = subst (λ (z : List (List ℕ)). length (block_of z) ≤ block_room) regrouped r.room;
+            room = subst (λ (z : List (List ℕ)). length (block_of z) ≤ PACKED_ROOM) regrouped r.room;
             rooms = r.rooms;
             full = subst (λ (z : List (List ℕ)). IsFull z r.others) regrouped r.full;
             fulls = r.fulls;
@@ -58,7 +60,7 @@ continues group (m ∷ messages) contents is some room fit =
           let whole : contents ≡ concat (group ++ []) = is ∙ ap concat (sym (append-nil group)) in
           let behind : contents ++ m ≡ concat ((group ++ []) ++ m ∷ []) =
           ap (λ z. z ++ m) whole ∙ ap (λ z. concat (group ++ []) ++ z) (sym (append-nil m)) ∙ sym (concat-append (group ++ []) (m ∷ [])) in
-          let above : block_room < header_length + length contents + length m = leb-false (header_length + length contents + length m) block_room e in
+          let above : PACKED_ROOM < HEADER_LENGTH + length contents + length m = leb-false (HEADER_LENGTH + length contents + length m) PACKED_ROOM e in
           let r : Continues (m ∷ []) messages (pack_from m messages) =
           continues (m ∷ []) messages m (sym (append-nil m)) (All-head FitsBlock m messages fit).0 (All-head FitsBlock m messages fit).1 (All-tail FitsBlock m messages fit) in
           record {
@@ -76,7 +78,7 @@ continues group (m ∷ messages) contents is some room fit =
 pub packs_groups : (messages : List (List ℕ)) → All FitsBlock messages → IsPacked messages (pack messages)
 packs_groups [] fit = record { groups = []; each = refl; blocks = refl; room = All-nil IsInRoom; full = tt }
 packs_groups (m ∷ messages) fit =
-    let alone : fits [] m ≡ true = le-leb (header_length + 0 + length m) block_room (omega (arith, (All-head FitsBlock m messages fit).1)) in
+    let alone : fits [] m ≡ true = le-leb (HEADER_LENGTH + 0 + length m) PACKED_ROOM (omega (arith, (All-head FitsBlock m messages fit).1)) in
     let r : Continues (m ∷ []) messages (pack_from m messages) =
     continues (m ∷ []) messages m (sym (append-nil m)) (All-head FitsBlock m messages fit).0 (All-head FitsBlock m messages fit).1 (All-tail FitsBlock m messages fit) in
     record {

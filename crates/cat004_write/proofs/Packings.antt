@@ -4,39 +4,42 @@ use Rattle.std.proofs.lemmas.Bool.{le-leb, lt-leb}
 use Rattle.std.proofs.lemmas.List.{take-append-drop, length-take, set-append_right}
 use Rattle.std.proofs.Math.Seq.{take-append_seam, drop-append_seam, drop-append-add}
 use Rattle.asterix_fields.specs.Numbers.{octets}
-use Rattle.cat004_write.specs.Blocks.{Packing, Packs, pack, pack_from, block, fits, last_block, header_length}
-use Rattle.cat004_write.specs.LastBlock.{IsWhole, packing_of}
+use Rattle.asterix_fields.specs.declared.sizes.TheConstants.{HEADER_LENGTH}
+use Rattle.cat004_write.specs.declared.message.TheConstants.{MESSAGE_ROOM}
+use Rattle.cat004_write.specs.declared.packer.TheConstants.{CATEGORY, PACKED_ROOM}
+use Rattle.cat004_write.specs.Blocks.{Packing, Packs, pack, pack_from, block, fits, last_block}
+use Rattle.cat004_write.specs.LastBlock.{HasRoom, IsWhole, extended, packing_of}
 
 -- the blocks of all messages
 pub Packs-all : (p : Packing) (ms : List (List ℕ)) → Packs p ms → p.closed ++ last_block p.contents ≡ pack ms
 Packs-all p ms h = sym (h []) ∙ ap pack (append-nil ms)
 
 -- a message that fits joins the contents
-pub Packs-joined : (p : Packing) (m : List ℕ) (ms : List (List ℕ)) → 3 + length p.contents + length m ≤ 1400 → Packs p ms → Packs (record { closed = p.closed; contents = p.contents ++ m }) (ms ++ m ∷ [])
+pub Packs-joined : (p : Packing) (m : List ℕ) (ms : List (List ℕ)) → HEADER_LENGTH + length p.contents + length m ≤ PACKED_ROOM → Packs p ms → Packs (record { closed = p.closed; contents = p.contents ++ m }) (ms ++ m ∷ [])
 Packs-joined p m ms room h rest =
-    let fitting : fits p.contents m ≡ true = le-leb (3 + length p.contents + length m) 1400 room in
+    let fitting : fits p.contents m ≡ true = le-leb (HEADER_LENGTH + length p.contents + length m) PACKED_ROOM room in
     ap pack (append_assoc ms (m ∷ []) rest) ∙ h (m ∷ rest) ∙ rw fitting refl
 
 -- another one begins a block
-pub Packs-begun : (p : Packing) (m : List ℕ) (ms : List (List ℕ)) → 1400 < 3 + length p.contents + length m → Packs p ms → Packs (record { closed = p.closed ++ block p.contents; contents = m }) (ms ++ m ∷ [])
+pub Packs-begun : (p : Packing) (m : List ℕ) (ms : List (List ℕ)) → PACKED_ROOM < HEADER_LENGTH + length p.contents + length m → Packs p ms → Packs (record { closed = p.closed ++ block p.contents; contents = m }) (ms ++ m ∷ [])
 Packs-begun p m ms full h rest =
-    let full' : fits p.contents m ≡ false = lt-leb (3 + length p.contents + length m) 1400 full in
+    let full' : fits p.contents m ≡ false = lt-leb (HEADER_LENGTH + length p.contents + length m) PACKED_ROOM full in
     ap pack (append_assoc ms (m ∷ []) rest) ∙ h (m ∷ rest) ∙ rw full' (sym (append_assoc p.closed (block p.contents) (pack_from m rest)))
 
 -- octets before a last block
 pub packing_of-block : (front contents : List ℕ) (place : ℕ) → place ≡ length front → packing_of (front ++ block contents) place ≡ record { closed = front; contents = contents }
 packing_of-block front contents place e =
     let closed : take place (front ++ block contents) ≡ front = rw e (take-append_seam front (block contents)) in
-    let rest : drop (place + header_length) (front ++ block contents) ≡ contents = rw e (drop-append-add front (block contents) 3) in
+    let rest : drop (place + HEADER_LENGTH) (front ++ block contents) ≡ contents = rw e (drop-append-add front (block contents) HEADER_LENGTH) in
     cc
 
 pub last_block-some : (contents : List ℕ) → 0 < length contents → last_block contents ≡ block contents
 last_block-some [] some = absurd (omega arith)
 last_block-some (octet ∷ contents) some = refl
 
-pub IsWhole-block : (front contents : List ℕ) (place : ℕ) → place ≡ length front → 0 < length contents → 3 + length contents ≤ 1400 → IsWhole (front ++ block contents) place
+pub IsWhole-block : (front contents : List ℕ) (place : ℕ) → place ≡ length front → 0 < length contents → HEADER_LENGTH + length contents ≤ PACKED_ROOM → IsWhole (front ++ block contents) place
 IsWhole-block front contents place e some room =
-    let rest : drop (place + header_length) (front ++ block contents) ≡ contents = rw e (drop-append-add front (block contents) 3) in
+    let rest : drop (place + HEADER_LENGTH) (front ++ block contents) ≡ contents = rw e (drop-append-add front (block contents) HEADER_LENGTH) in
     let whole : drop place (front ++ block contents) ≡ block contents = rw e (drop-append_seam front (block contents)) in
     record {
       begins = omega (arith, length-append front (block contents));
@@ -49,12 +52,22 @@ contents_of-some : (octets contents : List ℕ) → octets ≡ last_block conten
 contents_of-some octets [] e some = absurd (omega (arith, ap length e))
 contents_of-some octets (octet ∷ contents) e some = (omega arith, e)
 
-pub contents_of : (octets : List ℕ) (place : ℕ) → IsWhole octets place → place < length octets → (0 < length (drop (place + header_length) octets)) × (drop place octets ≡ block (drop (place + header_length) octets))
+pub contents_of : (octets : List ℕ) (place : ℕ) → IsWhole octets place → place < length octets → (0 < length (drop (place + HEADER_LENGTH) octets)) × (drop place octets ≡ block (drop (place + HEADER_LENGTH) octets))
 contents_of octets place h some =
-    contents_of-some (drop place octets) (drop (place + header_length) octets) h.ends (omega (arith, length-drop place octets))
+    contents_of-some (drop place octets) (drop (place + HEADER_LENGTH) octets) h.ends (omega (arith, length-drop place octets))
+
+-- where the octets from the place on leave room, the last block has it
+pub room_of : (octets message : List ℕ) (place : ℕ) → IsWhole octets place → place < length octets → length octets - place + length message ≤ PACKED_ROOM → HasRoom octets place message
+room_of octets message place h some room =
+    let contents = contents_of octets place h some in
+    record {
+      begins = omega (arith, contents.0, length-drop (place + HEADER_LENGTH) octets);
+      block = contents.1;
+      room = omega arith;
+    }
 
 -- the octets are the closed blocks and the last one
-pub octets-parts : (octets : List ℕ) (place : ℕ) → IsWhole octets place → take place octets ++ last_block (drop (place + header_length) octets) ≡ octets
+pub octets-parts : (octets : List ℕ) (place : ℕ) → IsWhole octets place → take place octets ++ last_block (drop (place + HEADER_LENGTH) octets) ≡ octets
 octets-parts octets place h = ap (λ z. take place octets ++ z) (sym h.ends) ∙ take-append-drop place octets
 
 nothing_of : (octets : List ℕ) → length octets ≡ 0 → octets ≡ []
@@ -62,27 +75,30 @@ nothing_of [] e = refl
 nothing_of (octet ∷ rest) e = absurd (omega arith)
 
 -- the packer that begins a block, behind nothing or behind a block without room
-begun_first : (old m : List ℕ) (last : ℕ) (ms : List (List ℕ)) → IsWhole old last → length old - last ≡ 0 → length m ≤ 64 → Packs (packing_of old last) ms → Packs (record { closed = old; contents = m }) (ms ++ m ∷ [])
+begun_first : (old m : List ℕ) (last : ℕ) (ms : List (List ℕ)) → IsWhole old last → length old - last ≡ 0 → length m ≤ MESSAGE_ROOM → Packs (packing_of old last) ms → Packs (record { closed = old; contents = m }) (ms ++ m ∷ [])
 begun_first old m last ms whole empty small h =
     let P : Packing → Type 0 = λ p. Packs p (ms ++ m ∷ []) in
-    let contents : List ℕ = drop (last + header_length) old in
+    let contents : List ℕ = drop (last + HEADER_LENGTH) old in
     let begins : last ≤ length old = whole.begins in
-    let none : contents ≡ [] = nothing_of contents (omega (arith, length-drop (last + header_length) old)) in
+    let none : contents ≡ [] = nothing_of contents (omega (arith, length-drop (last + HEADER_LENGTH) old)) in
     let front : take last old ≡ old = sym (append-nil (take last old)) ∙ subst (λ (z : List ℕ). take last old ++ last_block z ≡ old) none (octets-parts old last whole) in
-    let same : record { closed = take last old; contents = contents ++ m } ≡ record { closed = old; contents = m } = cc in
-    subst P same (Packs-joined (packing_of old last) m ms (omega (arith, ap length none)) h)
+    let joined : Packing = record { closed = take last old; contents = contents ++ m } in
+    let alone : Packing = record { closed = old; contents = m } in
+    let same : joined ≡ alone = cc in
+    let room : HEADER_LENGTH + length contents + length m ≤ PACKED_ROOM = omega (arith, ap length none) in
+    subst P same (Packs-joined (packing_of old last) m ms room h)
 
-begun_next : (old m : List ℕ) (last : ℕ) (ms : List (List ℕ)) → IsWhole old last → 1400 < length old - last + length m → length m ≤ 64 → Packs (packing_of old last) ms → Packs (record { closed = old; contents = m }) (ms ++ m ∷ [])
+begun_next : (old m : List ℕ) (last : ℕ) (ms : List (List ℕ)) → IsWhole old last → PACKED_ROOM < length old - last + length m → length m ≤ MESSAGE_ROOM → Packs (packing_of old last) ms → Packs (record { closed = old; contents = m }) (ms ++ m ∷ [])
 begun_next old m last ms whole full small h =
     let P : Packing → Type 0 = λ p. Packs p (ms ++ m ∷ []) in
-    let contents : List ℕ = drop (last + header_length) old in
+    let contents : List ℕ = drop (last + HEADER_LENGTH) old in
     let some : last < length old = omega arith in
     let is : drop last old ≡ block contents = (contents_of old last whole some).1 in
     let front : take last old ++ block contents ≡ old = ap (λ z. take last old ++ z) (sym is) ∙ take-append-drop last old in
-    let long : 1400 < 3 + length contents + length m = omega (arith, length-drop last old, ap length is) in
+    let long : PACKED_ROOM < HEADER_LENGTH + length contents + length m = omega (arith, length-drop last old, ap length is) in
     subst (λ (z : List ℕ). P (record { closed = z; contents = m })) front (Packs-begun (packing_of old last) m ms long h)
 
-pub Packs-block_begun : (old new m : List ℕ) (last place : ℕ) (ms : List (List ℕ)) → IsWhole old last → (length old - last ≡ 0) ⊎ (1400 < length old - last + length m) → length m ≤ 64 → place ≡ length old → new ≡ old ++ block m → Packs (packing_of old last) ms → Packs (packing_of new place) (ms ++ m ∷ [])
+pub Packs-block_begun : (old new m : List ℕ) (last place : ℕ) (ms : List (List ℕ)) → IsWhole old last → (length old - last ≡ 0) ⊎ (PACKED_ROOM < length old - last + length m) → length m ≤ MESSAGE_ROOM → place ≡ length old → new ≡ old ++ block m → Packs (packing_of old last) ms → Packs (packing_of new place) (ms ++ m ∷ [])
 Packs-block_begun old new m last place ms whole full small e now h =
     let P : Packing → Type 0 = λ p. Packs p (ms ++ m ∷ []) in
     let held : P (record { closed = old; contents = m }) =
@@ -92,31 +108,31 @@ Packs-block_begun old new m last place ms whole full small e now h =
     subst P (sym same) held
 
 -- the packer that extends its last block
-pub Packs-block_joined : (old new m : List ℕ) (last : ℕ) (ms : List (List ℕ)) → IsWhole old last → last < length old → length old - last + length m ≤ 1400 → new ≡ take last old ++ block (drop (last + header_length) old ++ m) → Packs (packing_of old last) ms → Packs (packing_of new last) (ms ++ m ∷ [])
+pub Packs-block_joined : (old new m : List ℕ) (last : ℕ) (ms : List (List ℕ)) → IsWhole old last → last < length old → length old - last + length m ≤ PACKED_ROOM → new ≡ extended old last m → Packs (packing_of old last) ms → Packs (packing_of new last) (ms ++ m ∷ [])
 Packs-block_joined old new m last ms whole some room now h =
     let P : Packing → Type 0 = λ p. Packs p (ms ++ m ∷ []) in
-    let contents : List ℕ = drop (last + header_length) old in
+    let contents : List ℕ = drop (last + HEADER_LENGTH) old in
     let is : drop last old ≡ block contents = (contents_of old last whole some).1 in
-    let fitting : 3 + length contents + length m ≤ 1400 = omega (arith, length-drop last old, ap length is) in
+    let fitting : HEADER_LENGTH + length contents + length m ≤ PACKED_ROOM = omega (arith, length-drop last old, ap length is) in
     let place : last ≡ length (take last old) = omega (arith, length-take last old) in
     let same : packing_of new last ≡ record { closed = take last old; contents = contents ++ m } =
     ap (λ z. packing_of z last) now ∙ packing_of-block (take last old) (contents ++ m) last place in
     subst P (sym same) (Packs-joined (packing_of old last) m ms fitting h)
 
-pub IsWhole-begun : (old new m : List ℕ) (place : ℕ) → place ≡ length old → 0 < length m → length m ≤ 64 → new ≡ old ++ block m → IsWhole new place
+pub IsWhole-begun : (old new m : List ℕ) (place : ℕ) → place ≡ length old → 0 < length m → length m ≤ MESSAGE_ROOM → new ≡ old ++ block m → IsWhole new place
 IsWhole-begun old new m place e some small now =
     let P : List ℕ → Type 0 = λ z. IsWhole z place in
     subst P (sym now) (IsWhole-block old m place e some (omega arith))
 
-pub IsWhole-joined : (old new m : List ℕ) (last : ℕ) → IsWhole old last → last < length old → length old - last + length m ≤ 1400 → new ≡ take last old ++ block (drop (last + header_length) old ++ m) → IsWhole new last
+pub IsWhole-joined : (old new m : List ℕ) (last : ℕ) → IsWhole old last → last < length old → length old - last + length m ≤ PACKED_ROOM → new ≡ extended old last m → IsWhole new last
 IsWhole-joined old new m last whole some room now =
     let P : List ℕ → Type 0 = λ z. IsWhole z last in
-    let contents : List ℕ = drop (last + header_length) old in
+    let contents : List ℕ = drop (last + HEADER_LENGTH) old in
     let held : 0 < length contents = (contents_of old last whole some).0 in
     let is : drop last old ≡ block contents = (contents_of old last whole some).1 in
     let place : last ≡ length (take last old) = omega (arith, length-take last old) in
     let more : 0 < length (contents ++ m) = omega (arith, length-append contents m) in
-    let fitting : 3 + length (contents ++ m) ≤ 1400 = omega (arith, length-append contents m, length-drop last old, ap length is) in
+    let fitting : HEADER_LENGTH + length (contents ++ m) ≤ PACKED_ROOM = omega (arith, length-append contents m, length-drop last old, ap length is) in
     subst P (sym now) (IsWhole-block (take last old) (contents ++ m) last place more fitting)
 
 -- the octets of a length behind the category
@@ -129,18 +145,18 @@ set_length front rest place category x y high low e =
     ap (λ z. set z (place + 2) low) first ∙ set-append_right front (category ∷ high ∷ y ∷ rest) place (place + 2) low (sym e) (omega arith) ∙ rw two refl
 
 -- the last block, as octets are put behind it and its length is written
-pub block_extended : (old new m : List ℕ) (place count high low : ℕ) → place + 3 ≤ length old → drop place old ≡ block (drop (place + 3) old) → new ≡ old ++ m → count ≡ length new - place → high ≡ count / 256 % 256 → low ≡ count / 1 % 256 → set (set new (place + 1) high) (place + 2) low ≡ take place old ++ block (drop (place + 3) old ++ m)
-block_extended old new m place count high low inside is now counted e f =
-    let contents : List ℕ = drop (place + 3) old in
+pub block_extended : (old new m : List ℕ) (place count high low : ℕ) → HasRoom old place m → new ≡ old ++ m → count ≡ length new - place → high ≡ count / 256 % 256 → low ≡ count / 1 % 256 → set (set new (place + 1) high) (place + 2) low ≡ extended old place m
+block_extended old new m place count high low has now counted e f =
+    let contents : List ℕ = drop (place + HEADER_LENGTH) old in
     let front : List ℕ = take place old in
-    let length_then : ℕ = header_length + length contents in
-    let begins : place ≡ length front = omega (arith, length-take place old) in
+    let length_then : ℕ = HEADER_LENGTH + length contents in
+    let begins : place ≡ length front = omega (arith, length-take place old, has.begins) in
     let parts : new ≡ front ++ (block contents ++ m) =
-    now ∙ ap (λ z. z ++ m) (sym (take-append-drop place old) ∙ ap (λ z. front ++ z) is) ∙ append_assoc front (block contents) m in
-    let counted' : count ≡ 3 + length (contents ++ m) =
-    omega (arith, ap length now, length-append old m, length-append contents m, length-drop (place + 3) old) in
-    let e' : high ≡ (3 + length (contents ++ m)) / 256 % 256 = e ∙ ap (λ n. n / 256 % 256) counted' in
-    let f' : low ≡ (3 + length (contents ++ m)) / 1 % 256 = f ∙ ap (λ n. n / 1 % 256) counted' in
-    let written : set (set (front ++ (block contents ++ m)) (place + 1) high) (place + 2) low ≡ front ++ 4 ∷ high ∷ low ∷ (contents ++ m) =
-    set_length front (contents ++ m) place 4 (length_then / 256 % 256) (length_then / 1 % 256) high low begins in
+    now ∙ ap (λ z. z ++ m) (sym (take-append-drop place old) ∙ ap (λ z. front ++ z) has.block) ∙ append_assoc front (block contents) m in
+    let counted' : count ≡ HEADER_LENGTH + length (contents ++ m) =
+    omega (arith, ap length now, length-append old m, length-append contents m, length-drop (place + HEADER_LENGTH) old, has.begins) in
+    let e' : high ≡ (HEADER_LENGTH + length (contents ++ m)) / 256 % 256 = e ∙ ap (λ n. n / 256 % 256) counted' in
+    let f' : low ≡ (HEADER_LENGTH + length (contents ++ m)) / 1 % 256 = f ∙ ap (λ n. n / 1 % 256) counted' in
+    let written : set (set (front ++ (block contents ++ m)) (place + 1) high) (place + 2) low ≡ front ++ CATEGORY ∷ high ∷ low ∷ (contents ++ m) =
+    set_length front (contents ++ m) place CATEGORY (length_then / 256 % 256) (length_then / 1 % 256) high low begins in
     ap (λ z. set (set z (place + 1) high) (place + 2) low) parts ∙ written ∙ (cc)

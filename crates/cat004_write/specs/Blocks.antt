@@ -1,21 +1,16 @@
 -- Messages in blocks of category 004 (ASTERIX part 1; the room of a block is this project's profile).
 use Rattle.std.specs.Prelude.{◌≡◌, ℕ, ◌+◌, Bool, nat_le, List, [], ◌∷◌, ◌++◌, length, if◌then◌else◌}
+use Rattle.asterix_fields.specs.declared.sizes.TheConstants.{HEADER_LENGTH}
 use Rattle.asterix_fields.specs.Numbers.{octets}
+use Rattle.cat004_write.specs.declared.packer.TheConstants.{CATEGORY, PACKED_ROOM}
 
--- the octets of a block at most, and those of its category and length
-abbrev pub block_room : ℕ
-block_room = 1400
-
-abbrev pub header_length : ℕ
-header_length = 3
-
--- category 4, the length, and the contents
+-- the category, the length, and the contents
 abbrev pub block : List ℕ → List ℕ
-block contents = 4 ∷ octets 2 (header_length + length contents) ++ contents
+block contents = CATEGORY ∷ octets 2 (HEADER_LENGTH + length contents) ++ contents
 
 -- the message fits into a block behind these contents
 abbrev pub fits : List ℕ → List ℕ → Bool
-fits contents message = nat_le (header_length + length contents + length message) block_room
+fits contents message = nat_le (HEADER_LENGTH + length contents + length message) PACKED_ROOM
 
 -- the last block, if anything stands in it
 abbrev pub last_block : List ℕ → List ℕ
@@ -44,3 +39,11 @@ pub record Packing : Type 0 where
 -- and what comes of the open one are the blocks of all
 abbrev pub Packs : Packing → List (List ℕ) → Type 0
 Packs p messages = (rest : List (List ℕ)) → pack (messages ++ rest) ≡ p.closed ++ pack_from p.contents rest
+
+-- from the old to the new this message was taken behind the others
+abbrev pub Takes : Packing → List ℕ → Packing → Type 0
+Takes old message new = (messages : List (List ℕ)) → Packs old messages → Packs new (messages ++ message ∷ [])
+
+-- these octets are the blocks of all messages that were taken
+abbrev pub HoldsAll : Packing → List ℕ → Type 0
+HoldsAll p blocks = (messages : List (List ℕ)) → Packs p messages → blocks ≡ pack messages

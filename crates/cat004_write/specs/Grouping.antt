@@ -1,11 +1,13 @@
 -- Which messages stand in which block (ASTERIX part 1: a block is its category, its length and whole records; the room of a block is this project's profile).
 use Rattle.std.specs.Prelude.{◌≡◌, ℕ, ◌+◌, ◌<◌, ◌≤◌, List, [], ◌∷◌, ◌++◌, length, take, All}
 use Rattle.std.specs.List.{concat, flat_map}
-use Rattle.cat004_write.specs.Blocks.{block, block_room, header_length}
+use Rattle.asterix_fields.specs.declared.sizes.TheConstants.{HEADER_LENGTH}
+use Rattle.cat004_write.specs.declared.packer.TheConstants.{PACKED_ROOM}
+use Rattle.cat004_write.specs.Blocks.{block}
 
 -- a message that has octets, and room in a block by itself
 abbrev pub FitsBlock : List ℕ → Type 0
-FitsBlock message = (0 < length message) × (header_length + length message ≤ block_room)
+FitsBlock message = (0 < length message) × (HEADER_LENGTH + length message ≤ PACKED_ROOM)
 
 -- the block of these messages
 abbrev pub block_of : List (List ℕ) → List ℕ
@@ -13,12 +15,12 @@ block_of messages = block (concat messages)
 
 -- a block of some messages that keeps to its room
 abbrev pub IsInRoom : List (List ℕ) → Type 0
-IsInRoom messages = (0 < length messages) × (length (block_of messages) ≤ block_room)
+IsInRoom messages = (0 < length messages) × (length (block_of messages) ≤ PACKED_ROOM)
 
 -- the block of these messages has no room for the first of the next block
 abbrev pub IsFull : List (List ℕ) → List (List (List ℕ)) → Type 0
 IsFull messages [] = Unit {0}
-IsFull messages (next ∷ groups) = block_room < length (block_of (messages ++ take 1 next))
+IsFull messages (next ∷ groups) = PACKED_ROOM < length (block_of (messages ++ take 1 next))
 
 -- so it is for each block but the last
 abbrev pub AreFull : List (List (List ℕ)) → Type 0

@@ -1,7 +1,8 @@
 -- The record of an event, item by item (this project's profile after ASTERIX part 4).
-use Rattle.std.specs.Prelude.{ℕ, ◌%◌, ◌^◌, ◌<◌, List, [], ◌∷◌, ◌++◌, Option, Some, None}
+use Rattle.std.specs.Prelude.{ℕ, ◌+◌, ◌-◌, ◌*◌, ◌/◌, ◌%◌, ◌^◌, ◌<◌, ◌≤◌, ◌==◌, nat_lt, List, [], ◌∷◌, ◌++◌, length, map, take, Option, Some, None, if◌then◌else◌}
+use Rattle.std.specs.List.{list_any, sum_by}
 use Rattle.asterix_fields.specs.Numbers.{octets}
-use Rattle.cat062_read.specs.Tracks.{ticks_per_day}
+use Rattle.cat062_read.specs.declared.track.TheConstants.{TICKS_PER_DAY}
 use Rattle.cat004_write.specs.declared.event.Net.{Net}
 use Rattle.cat004_write.specs.declared.event.Net.TheVariants.{Stca, Msaw, Apw, Apm}
 use Rattle.cat004_write.specs.declared.event.Status.{Status}
@@ -9,6 +10,8 @@ use Rattle.cat004_write.specs.declared.event.Status.TheVariants.{First, Continui
 use Rattle.cat004_write.specs.declared.event.HitData.{HitData}
 use Rattle.cat004_write.specs.declared.event.Subject.{Subject}
 use Rattle.cat004_write.specs.declared.event.Event.{Event}
+use Rattle.cat004_write.specs.declared.message.Message.{Message}
+use Rattle.cat004_write.specs.declared.message.TheConstants.{MESSAGE_ROOM}
 
 -- item 000, the message type
 abbrev pub message_type : Net → ℕ
@@ -17,19 +20,31 @@ message_type Apw = 5
 message_type Stca = 7
 message_type Apm = 8
 
--- the FSPEC: items 010, 000, 020, 040, 045, 030, SP always; 070 where there is a hit; 035 in STCA
-abbrev pub second_octet : Option HitData → ℕ
-second_octet (Some hit) = 145
-second_octet None = 129
+-- the FRNs of the items that a message has: 010, 000, 020, 040, 045 and 030, where there is a hit 070, in STCA 035, and SP
+abbrev pub conflict_frn : Option HitData → List ℕ
+conflict_frn (Some hit) = 11 ∷ []
+conflict_frn None = []
 
-abbrev pub third_octet : Net → ℕ
-third_octet Stca = 66
-third_octet Msaw = 2
-third_octet Apw = 2
-third_octet Apm = 2
+abbrev pub second_track_frn : Net → List ℕ
+second_track_frn Stca = 16 ∷ []
+second_track_frn Msaw = []
+second_track_frn Apw = []
+second_track_frn Apm = []
 
+abbrev pub frns_of : Event → List ℕ
+frns_of e = 1 ∷ 2 ∷ 4 ∷ 5 ∷ 6 ∷ 8 ∷ conflict_frn e.hit ++ second_track_frn e.subject.net ++ 21 ∷ []
+
+-- the bit of an FRN, if it stands in this octet of the FSPEC: bits 8 to 2 of octet j, from 0, are FRN 7 * j + 1 to 7 * j + 7
+abbrev pub bit_in : ℕ → ℕ → ℕ
+bit_in octet frn = if (frn - 1) / 7 == octet then 2 ^ (7 - (frn - 1) % 7) else 0
+
+-- an octet of the FSPEC of these FRNs; its bit 1 says that another octet follows
+abbrev pub fspec_octet : List ℕ → ℕ → ℕ
+fspec_octet frns octet = sum_by (bit_in octet) frns + (if list_any (λ frn. nat_lt (7 * (octet + 1)) frn) frns then 1 else 0)
+
+-- the FSPEC of a message: three octets, the last of which has the bit of SP
 abbrev pub field_specification : Event → List ℕ
-field_specification e = 221 ∷ second_octet e.hit ∷ third_octet e.subject.net ∷ []
+field_specification e = map (fspec_octet (frns_of e)) (0 ∷ 1 ∷ 2 ∷ [])
 
 -- item 045, the alert's status (1 first, 2 continuing, 3 ended) in bits 4 to 2
 abbrev pub status_octet : Status → ℕ
@@ -66,15 +81,18 @@ abbrev pub flags_of : Option HitData → ℕ
 flags_of None = 0
 flags_of (Some hit) = hit.flags
 
--- SP: its length, the message type, the track's source, what it is about, the flags
+-- SP: its length, which counts itself, and then the message type, the track's source, what it is about, the flags
+abbrev pub special_contents : Event → List ℕ
+special_contents e = message_type e.subject.net ∷ e.subject.key.sac ∷ e.subject.key.sic ∷ about e.subject e.subject.net ++ flags_of e.hit ∷ []
+
 abbrev pub special : Event → List ℕ
-special e = 7 ∷ message_type e.subject.net ∷ e.subject.key.sac ∷ e.subject.key.sic ∷ about e.subject e.subject.net ++ flags_of e.hit ∷ []
+special e = (length (special_contents e) + 1) ∷ special_contents e
 
 -- the message of an event at a time in ticks, from a source (010, 000, 020, 040, 045, 030, 070, 035, SP)
 unfoldable pub message : Event → ℕ → ℕ → ℕ → List ℕ
 message e time sac sic =
     field_specification e
-    ++ sac ∷ sic ∷ message_type e.subject.net ∷ octets 3 (time % ticks_per_day)
+    ++ sac ∷ sic ∷ message_type e.subject.net ∷ octets 3 (time % TICKS_PER_DAY)
     ++ octets 2 e.id
     ++ status_octet e.status ∷ octets 2 e.subject.key.number
     ++ conflict e.subject.net e.hit
@@ -91,3 +109,11 @@ message_length net None = 21
 -- the figures of a hit that are written in three octets fit them
 abbrev pub FitsOctets : HitData → Type 0
 FitsOctets hit = (hit.first < 2 ^ 24) × (hit.closest < 2 ^ 24) × (hit.chs < 2 ^ 24)
+
+-- there is room for so many more octets of a message
+abbrev pub HasPlace : List ℕ → ℕ → Type 0
+HasPlace octets more = length octets + more ≤ MESSAGE_ROOM
+
+-- the octets of a message that was written
+abbrev pub written : Message → List ℕ
+written m = take m.len m.bytes

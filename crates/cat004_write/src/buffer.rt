@@ -1,5 +1,6 @@
 //! A message while it is written.
-ghost use Rattle.std.specs.Prelude.{◌≡◌, ◌+◌, ◌≤◌, [], ◌++◌, length, take};
+ghost use Rattle.std.specs.Prelude.{◌≡◌, ◌≤◌, [], ◌++◌, length};
+ghost use Rattle.cat004_write.specs.Messages.{HasPlace, written};
 
 use crate::message::{MESSAGE_ROOM, Message};
 use std::marker::Model;
@@ -7,18 +8,19 @@ use std::marker::Model;
 /// The octets that were put so far, in the room of a message.
 #[derive(Drop)]
 pub struct Buffer {
-    bytes: [u8; 64],
+    bytes: [u8; MESSAGE_ROOM],
     len: usize,
 }
 
 impl Model for Buffer {
     ghost use Rattle.std.specs.Prelude.{List, ℕ, ◌≤◌, take};
+    ghost use Rattle.cat004_write.specs.declared.message.TheConstants.{MESSAGE_ROOM};
 
     ghost Value = { List ℕ };
 
     ghost view = { λ b. take b.len b.bytes };
 
-    ghost invariant = { λ b. b.len ≤ 64 };
+    ghost invariant = { λ b. b.len ≤ MESSAGE_ROOM };
 }
 
 impl Buffer {
@@ -34,7 +36,7 @@ impl Buffer {
 
     /// Puts these octets behind the others.
     pub fn put(&mut self, piece: &[u8])
-        requires { length self.old + length piece.now ≤ 64 }
+        requires { HasPlace self.old (length piece.now) }
         ensures { self.new ≡ self.old ++ piece.now }
     {
         let end = self.len + piece.len();
@@ -44,9 +46,9 @@ impl Buffer {
 
     /// The message that was written.
     pub fn finish(self) -> Message
-        ensures bytes { take result.len result.bytes ≡ self }
+        ensures bytes { written result ≡ self }
         ensures len { result.len ≡ length self }
-        ensures room { result.len ≤ 64 }
+        ensures room { result.len ≤ MESSAGE_ROOM }
     {
         let bytes = self.bytes;
         let len = self.len as u8;

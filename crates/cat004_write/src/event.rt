@@ -26,6 +26,24 @@ pub struct Subject {
     pub object: u16,
 }
 
+/// Flag of a hit: it is urgent.
+pub const URGENT: u8 = 1;
+
+/// Flag of a hit in STCA: the tracks are already too near.
+pub const CURRENT_PROXIMITY: u8 = 2;
+
+/// Flag of a hit in APM: the track is below the funnel.
+pub const BELOW: u8 = 4;
+
+/// Flag of a hit in APM: the track is above the funnel.
+pub const ABOVE: u8 = 8;
+
+/// Flag of a hit in APM: the track is left of the funnel.
+pub const LEFT: u8 = 16;
+
+/// Flag of a hit in APM: the track is right of the funnel.
+pub const RIGHT: u8 = 32;
+
 /// The figures of a hit. Those that a net doesn't have are 0.
 #[derive(Clone, Copy, Debug, PartialEq, Eq)]
 pub struct HitData {
@@ -41,7 +59,7 @@ pub struct HitData {
     pub cvs: u16,
     /// The vertical separation at the minimum horizontal one, in 25 ft.
     pub mvs: u16,
-    /// 1 urgent, 2 current proximity, 4 below, 8 above, 16 left, 32 right.
+    /// A sum of `URGENT`, `CURRENT_PROXIMITY`, `BELOW`, `ABOVE`, `LEFT` and `RIGHT`.
     pub flags: u8,
 }
 

@@ -7,9 +7,11 @@ pub mod laws;
 pub mod message;
 pub mod packer;
 
-pub use event::{Event, HitData, Net, Status, Subject};
-pub use message::{Message, write_event};
-pub use packer::Packer;
+pub use event::{
+    ABOVE, BELOW, CURRENT_PROXIMITY, Event, HitData, LEFT, Net, RIGHT, Status, Subject, URGENT,
+};
+pub use message::{MESSAGE_ROOM, Message, write_event};
+pub use packer::{CATEGORY, PACKED_ROOM, Packer};
 
 #[cfg(test)]
 mod tests;

@@ -1,9 +1,7 @@
 //! The bytes of a message.
-ghost use Rattle.std.specs.Prelude.{◌≡◌, ◌+◌, ◌≤◌, ◌<◌, ◌++◌, ◌∷◌, [], ◌%◌, length, take, IfSome, pos, ◌≤ℤ◌};
+ghost use Rattle.std.specs.Prelude.{◌≡◌, ◌≤◌, ◌++◌, ◌%◌, IfSome, pos, ◌≤ℤ◌};
 ghost use Rattle.std.specs.Int.RustNames.{unsigned_abs};
-ghost use Rattle.asterix_fields.specs.Numbers.{octets};
-ghost use Rattle.cat062_read.specs.Tracks.{ticks_per_day};
-ghost use Rattle.cat004_write.specs.Messages.{FitsOctets, about as about_octets, flags_of, conflict as conflict_item, conflict_of, field_specification as fspec, message, message_length, message_type as type_number, second_track as second_track_item, special as special_item, status_octet as status_number};
+ghost use Rattle.cat004_write.specs.Messages.{FitsOctets, HasPlace, about as about_octets, flags_of, conflict as conflict_item, conflict_of, field_specification as fspec, message, message_length, message_type as type_number, second_track as second_track_item, special as special_item, status_octet as status_number, written};
 
 use crate::buffer::Buffer;
 use crate::event::{Event, HitData, Net, Status, Subject};
@@ -19,7 +17,7 @@ const SPECIAL_LENGTH: u8 = 7;
 /// A message: the first `len` of `bytes`.
 #[derive(Clone, Copy, Debug, PartialEq, Eq)]
 pub struct Message {
-    pub bytes: [u8; 64],
+    pub bytes: [u8; MESSAGE_ROOM],
     pub len: u8,
 }
 
@@ -30,9 +28,9 @@ pub struct Message {
 pub fn write_event(e: &Event, time: i64, sac: u8, sic: u8) -> Message
     requires time { pos 0 ≤ℤ time }
     requires figures { IfSome e.now.hit FitsOctets }
-    ensures bytes { take result.len result.bytes ≡ message e.now (unsigned_abs time) sac sic }
+    ensures bytes { written result ≡ message e.now (unsigned_abs time) sac sic }
     ensures length { result.len ≡ message_length e.now.subject.net e.now.hit }
-    ensures room { result.len ≤ 64 }
+    ensures room { result.len ≤ MESSAGE_ROOM }
 {
     let subject = &e.subject;
     let mut buffer = Buffer::new();
@@ -51,7 +49,7 @@ pub fn write_event(e: &Event, time: i64, sac: u8, sic: u8) -> Message
 /// Ticks since midnight.
 fn time_of_day(time: i64) -> u32
     requires { pos 0 ≤ℤ time }
-    ensures { result ≡ unsigned_abs time % ticks_per_day }
+    ensures { result ≡ unsigned_abs time % TICKS_PER_DAY }
 {
     (time as u64 % u64::from(TICKS_PER_DAY)) as u32
 }
@@ -81,20 +79,17 @@ fn status_octet(status: Status) -> u8
 fn field_specification(e: &Event) -> [u8; 3]
     ensures { result ≡ fspec e.now }
 {
-    let second = match e.hit {
-        Some(_) => 0x91,
-        None => 0x81,
-    };
-    let third = match e.subject.net {
-        Net::Stca => 0x42,
-        Net::Msaw | Net::Apw | Net::Apm => 0x02,
-    };
-    [0xDD, second, third]
+    match (e.subject.net, e.hit) {
+        (Net::Stca, Some(_)) => [0xDD, 0x91, 0x42],
+        (Net::Stca, None) => [0xDD, 0x81, 0x42],
+        (Net::Msaw | Net::Apw | Net::Apm, Some(_)) => [0xDD, 0x91, 0x02],
+        (Net::Msaw | Net::Apw | Net::Apm, None) => [0xDD, 0x81, 0x02],
+    }
 }
 
 /// Item 070, where there is a hit.
 fn put_conflict(buffer: &mut Buffer, net: Net, hit: &Option<HitData>)
-    requires room { length buffer.old ≤ 48 }
+    requires room { HasPlace buffer.old 16 }
     requires figures { IfSome hit.now FitsOctets }
     ensures { buffer.new ≡ buffer.old ++ conflict_item net hit.now }
 {
@@ -105,7 +100,7 @@ fn put_conflict(buffer: &mut Buffer, net: Net, hit: &Option<HitData>)
 
 /// The time to conflict alone, or in STCA all six figures.
 fn put_figures(buffer: &mut Buffer, net: Net, hit: &HitData)
-    requires room { length buffer.old ≤ 48 }
+    requires room { HasPlace buffer.old 16 }
     requires figures { FitsOctets hit.now }
     ensures { buffer.new ≡ buffer.old ++ conflict_of net hit.now }
 {
@@ -119,7 +114,7 @@ fn put_figures(buffer: &mut Buffer, net: Net, hit: &HitData)
 }
 
 fn put_all_figures(buffer: &mut Buffer, hit: &HitData)
-    requires room { length buffer.old ≤ 48 }
+    requires room { HasPlace buffer.old 16 }
     requires figures { FitsOctets hit.now }
     ensures { buffer.new ≡ buffer.old ++ conflict_of Net.Stca hit.now }
 {
@@ -134,7 +129,7 @@ fn put_all_figures(buffer: &mut Buffer, hit: &HitData)
 
 /// Item 035, in STCA.
 fn put_second_track(buffer: &mut Buffer, subject: &Subject)
-    requires { length buffer.old ≤ 62 }
+    requires { HasPlace buffer.old 2 }
     ensures { buffer.new ≡ buffer.old ++ second_track_item subject.now subject.now.net }
 {
     if let Net::Stca = subject.net {
@@ -144,7 +139,7 @@ fn put_second_track(buffer: &mut Buffer, subject: &Subject)
 
 /// The special purpose field.
 fn put_special(buffer: &mut Buffer, e: &Event)
-    requires { length buffer.old ≤ 57 }
+    requires { HasPlace buffer.old 7 }
     ensures { buffer.new ≡ buffer.old ++ special_item e.now }
 {
     let subject = &e.subject;

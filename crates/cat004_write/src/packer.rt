@@ -1,22 +1,22 @@
 //! Messages in blocks.
-ghost use Rattle.std.specs.Prelude.{◌≡◌, ◌+◌, ◌≤◌, ◌<◌, ◌∷◌, ◌++◌, [], ℕ, List, length, take, drop, OnOk, OnErr, vec_len};
-ghost use Rattle.cat004_write.specs.Blocks.{Packs, pack, block};
+ghost use Rattle.std.specs.Prelude.{◌≡◌, ◌≢◌, ◌≤◌, ◌++◌, [], length, OnOk, OnErr};
+ghost use Rattle.cat004_write.specs.Blocks.{HoldsAll, Packs, Takes, block};
+ghost use Rattle.cat004_write.specs.LastBlock.{HasRoom, extended};
+ghost use Rattle.cat004_write.specs.Messages.{written};
 
 use crate::NoMemory;
-use crate::message::Message;
+use crate::message::{MESSAGE_ROOM, Message};
 use asterix_fields::put16;
+use asterix_fields::sizes::HEADER_LENGTH;
 use std::alloc::Global;
 use std::marker::Model;
 use std::mem;
 
 /// The category of alert messages.
-const CATEGORY: u8 = 4;
+pub const CATEGORY: u8 = 4;
 
-/// The octets of a block's category and length.
-const HEADER_LENGTH: usize = 3;
-
-/// The most octets of a block.
-pub const BLOCK_ROOM: usize = 1_400;
+/// The octets of a written block at most.
+pub const PACKED_ROOM: usize = 1_400;
 
 /// The messages of a cycle in blocks, in the order in which they came.
 #[derive(Drop)]
@@ -54,16 +54,17 @@ impl Packer {
     /// Takes a message behind the others, into the present block, or into a new one where the present one
     /// has no room for it.
     pub fn push(&mut self, m: &Message) -> Result<(), NoMemory>
-        requires { m.now.len ≤ 64 }
-        ensures ok { OnOk result ((ms : List (List ℕ)) → Packs self.old ms → Packs self.new (ms ++ (take m.now.len m.now.bytes) ∷ [])) }
+        requires { m.now.len ≤ MESSAGE_ROOM }
+        ensures ok { OnOk result (Takes self.old (written m.now) self.new) }
         ensures err { OnErr result (self.new ≡ self.old) }
+        ensures memory { OnErr result (written m.now ≢ []) }
     {
         let message = &m.bytes[..m.len as usize];
         let length = self.bytes.len() - self.last;
         if message.is_empty() {
             return Ok(());
         }
-        if length == 0 || length + message.len() > BLOCK_ROOM {
+        if length == 0 || length + message.len() > PACKED_ROOM {
             let place = self.bytes.len();
             begin_block(&mut self.bytes, message)?;
             self.last = place;
@@ -75,7 +76,7 @@ impl Packer {
 
     /// The blocks of all messages since the last call. Leaves the packer without messages.
     pub fn take(&mut self) -> Vec<u8>
-        ensures blocks { (ms : List (List ℕ)) → Packs self.old ms → result.items ≡ pack ms }
+        ensures blocks { HoldsAll self.old result.items }
         ensures emptied { Packs self.new [] }
     {
         self.last = 0;
@@ -85,7 +86,7 @@ impl Packer {
 
 /// Puts a block of this one message behind the others.
 fn begin_block(bytes: &mut Vec<u8>, message: &[u8]) -> Result<(), NoMemory>
-    requires { length message.now ≤ 64 }
+    requires { length message.now ≤ MESSAGE_ROOM }
     ensures ok { OnOk result (bytes.new.items ≡ bytes.old.items ++ block message.now) }
     ensures err { OnErr result (bytes.new.items ≡ bytes.old.items) }
 {
@@ -98,10 +99,8 @@ fn begin_block(bytes: &mut Vec<u8>, message: &[u8]) -> Result<(), NoMemory>
 
 /// Puts a message into the last block.
 fn extend_block(bytes: &mut Vec<u8>, place: usize, message: &[u8]) -> Result<(), NoMemory>
-    requires block { place + 3 ≤ length bytes.old.items }
-    requires category { drop place bytes.old.items ≡ block (drop (place + 3) bytes.old.items) }
-    requires room { length bytes.old.items + length message.now ≤ place + 1400 }
-    ensures ok { OnOk result (bytes.new.items ≡ take place bytes.old.items ++ block (drop (place + 3) bytes.old.items ++ message.now)) }
+    requires { HasRoom bytes.old.items place message.now }
+    ensures ok { OnOk result (bytes.new.items ≡ extended bytes.old.items place message.now) }
     ensures err { OnErr result (bytes.new.items ≡ bytes.old.items) }
 {
     bytes.extend_from_slice(message)?;

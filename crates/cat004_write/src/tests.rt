@@ -1,11 +1,9 @@
 //! Messages and blocks, as worked out by hand from the layout.
-ghost use Rattle.std.specs.Prelude.{◌≡◌, ◌+◌, ◌≤◌, ◌<◌, IfSome, pos, ◌≤ℤ◌};
+ghost use Rattle.std.specs.Prelude.{IfSome, pos, ◌≤ℤ◌};
 ghost use Rattle.cat004_write.specs.Messages.{FitsOctets};
 
-use crate::event::{Event, HitData, Net, Status, Subject};
-use crate::message::{MESSAGE_ROOM, Message, write_event};
-use crate::packer::Packer;
-use cat062_read::TrackKey;
+use super::*;
+use cat062_read::{TICKS_PER_DAY, TrackKey};
 use std::process::Abort;
 use std::test::Fail;
 
@@ -25,72 +23,62 @@ const NO_TRACK: TrackKey = TrackKey {
     number: 0,
 };
 
-fn key(number: u16) -> TrackKey {
-    TrackKey {
-        sac: 25,
-        sic: 10,
-        number,
-    }
-}
+const TRACK: TrackKey = TrackKey {
+    sac: 25,
+    sic: 10,
+    number: 0x0101,
+};
 
-fn pair() -> Subject {
-    Subject {
-        net: Net::Stca,
-        key: key(0x0101),
-        other: key(0x0102),
-        object: 0,
-    }
-}
+const OTHER: TrackKey = TrackKey {
+    number: 0x0102,
+    ..TRACK
+};
 
-fn single(net: Net, object: u16) -> Subject {
-    Subject {
-        net,
-        key: key(0x0101),
-        other: NO_TRACK,
-        object,
-    }
-}
+/// A pair in STCA.
+const PAIR: Subject = Subject {
+    net: Net::Stca,
+    key: TRACK,
+    other: OTHER,
+    object: 0,
+};
 
-fn one_figure(first: u32, flags: u8) -> HitData
-    requires { first < 1000 }
-    ensures { FitsOctets result }
-{
-    HitData {
-        first,
-        closest: 0,
-        chs: 0,
-        mhs: 0,
-        cvs: 0,
-        mvs: 0,
-        flags,
-    }
-}
+/// A track alone, for the other nets.
+const SINGLE: Subject = Subject {
+    net: Net::Msaw,
+    key: TRACK,
+    other: NO_TRACK,
+    object: 0,
+};
 
 /// The pair at 4,000 m and 200 ft that meets in 8 s.
-fn meeting() -> HitData
-    ensures { FitsOctets result }
-{
-    HitData {
-        first: 0,
-        closest: 1024,
-        chs: 8000,
-        mhs: 0,
-        cvs: 8,
-        mvs: 8,
-        flags: 3,
-    }
-}
+const MEETING: HitData = HitData {
+    first: 0,
+    closest: 1024,
+    chs: 8000,
+    mhs: 0,
+    cvs: 8,
+    mvs: 8,
+    flags: URGENT + CURRENT_PROXIMITY,
+};
 
-fn event(subject: Subject, status: Status, id: u16, hit: Option<HitData>) -> Event
-    ensures { result.hit ≡ hit }
-{
-    Event {
-        subject,
-        status,
-        id,
-        hit,
-    }
-}
+/// A hit outside STCA, with no time to the conflict.
+const NOW: HitData = HitData {
+    first: 0,
+    closest: 0,
+    chs: 0,
+    mhs: 0,
+    cvs: 0,
+    mvs: 0,
+    flags: URGENT,
+};
+
+/// The pair's first alert.
+const FIRST: Event = Event {
+    subject: PAIR,
+    status: Status::First,
+    id: 0,
+    hit: Some(MEETING),
+};
 
 fn check(rt: &impl Abort, e: &Event, time: i64, want: &[u8])
     requires time { pos 0 ≤ℤ time }
@@ -101,130 +89,140 @@ fn check(rt: &impl Abort, e: &Event, time: i64, want: &[u8])
     assert_eq!(rt; octets, want, "of {e:?}");
 }
 
-/// The pair of two tracks head on, First with its figures, then Continuing and Ended without a hit.
 #[test]
-fn two_tracks_head_on(rt: HostRuntime) {
-    let first = event(pair(), Status::First, 0, Some(meeting()));
-    check(
-        &rt,
-        &first,
-        FIRST_CYCLE,
-        &[
-            0xDD, 0x91, 0x42, 0x19, 0x64, 0x07, 0x46, 0x52, 0x00, 0x00, 0x00, 0x02, 0x01, 0x01,
-            0xFC, 0x00, 0x00, 0x00, 0x00, 0x04, 0x00, 0x00, 0x1F, 0x40, 0x00, 0x00, 0x00, 0x08,
-            0x00, 0x08, 0x01, 0x02, 0x07, 0x07, 0x19, 0x0A, 0x19, 0x0A, 0x03,
-        ],
-    );
-    let continuing = event(pair(), Status::Continuing, 0, None);
-    check(
-        &rt,
-        &continuing,
-        FIRST_CYCLE + PERIOD,
-        &[
-            0xDD, 0x81, 0x42, 0x19, 0x64, 0x07, 0x46, 0x54, 0x00, 0x00, 0x00, 0x04, 0x01, 0x01,
-            0x01, 0x02, 0x07, 0x07, 0x19, 0x0A, 0x19, 0x0A, 0x00,
-        ],
-    );
-    let ended = event(pair(), Status::Ended, 0, None);
-    check(
-        &rt,
-        &ended,
-        FIRST_CYCLE + 3 * PERIOD,
-        &[
-            0xDD, 0x81, 0x42, 0x19, 0x64, 0x07, 0x46, 0x58, 0x00, 0x00, 0x00, 0x06, 0x01, 0x01,
-            0x01, 0x02, 0x07, 0x07, 0x19, 0x0A, 0x19, 0x0A, 0x00,
-        ],
-    );
+fn a_pair_with_its_figures(rt: HostRuntime) {
+    let octets = [
+        0xDD, 0x91, 0x42, 0x19, 0x64, 0x07, 0x46, 0x52, 0x00, 0x00, 0x00, 0x02, 0x01, 0x01, 0xFC,
+        0x00, 0x00, 0x00, 0x00, 0x04, 0x00, 0x00, 0x1F, 0x40, 0x00, 0x00, 0x00, 0x08, 0x00, 0x08,
+        0x01, 0x02, 0x07, 0x07, 0x19, 0x0A, 0x19, 0x0A, 0x03,
+    ];
+    check(&rt, &FIRST, FIRST_CYCLE, &octets);
+}
+
+#[test]
+fn a_pair_without_a_hit(rt: HostRuntime) {
+    let continuing = Event {
+        status: Status::Continuing,
+        hit: None,
+        ..FIRST
+    };
+    let octets = [
+        0xDD, 0x81, 0x42, 0x19, 0x64, 0x07, 0x46, 0x54, 0x00, 0x00, 0x00, 0x04, 0x01, 0x01, 0x01,
+        0x02, 0x07, 0x07, 0x19, 0x0A, 0x19, 0x0A, 0x00,
+    ];
+    check(&rt, &continuing, FIRST_CYCLE + PERIOD, &octets);
+}
+
+#[test]
+fn a_pair_that_has_ended(rt: HostRuntime) {
+    let ended = Event {
+        status: Status::Ended,
+        hit: None,
+        ..FIRST
+    };
+    let octets = [
+        0xDD, 0x81, 0x42, 0x19, 0x64, 0x07, 0x46, 0x58, 0x00, 0x00, 0x00, 0x06, 0x01, 0x01, 0x01,
+        0x02, 0x07, 0x07, 0x19, 0x0A, 0x19, 0x0A, 0x00,
+    ];
+    check(&rt, &ended, FIRST_CYCLE + 3 * PERIOD, &octets);
 }
 
 /// 256 ticks after midnight.
 #[test]
 fn time_past_midnight(rt: HostRuntime) {
-    let hit = HitData {
-        first: 0,
-        closest: 0x03E2,
-        chs: 0x1E55,
-        mhs: 0,
-        cvs: 8,
-        mvs: 8,
-        flags: 3,
+    let late = Event {
+        hit: Some(HitData {
+            closest: 0x03E2,
+            chs: 0x1E55,
+            ..MEETING
+        }),
+        ..FIRST
     };
-    let e = event(pair(), Status::First, 0, Some(hit));
-    check(
-        &rt,
-        &e,
-        11_059_456,
-        &[
-            0xDD, 0x91, 0x42, 0x19, 0x64, 0x07, 0x00, 0x01, 0x00, 0x00, 0x00, 0x02, 0x01, 0x01,
-            0xFC, 0x00, 0x00, 0x00, 0x00, 0x03, 0xE2, 0x00, 0x1E, 0x55, 0x00, 0x00, 0x00, 0x08,
-            0x00, 0x08, 0x01, 0x02, 0x07, 0x07, 0x19, 0x0A, 0x19, 0x0A, 0x03,
-        ],
-    );
+    let octets = [
+        0xDD, 0x91, 0x42, 0x19, 0x64, 0x07, 0x00, 0x01, 0x00, 0x00, 0x00, 0x02, 0x01, 0x01, 0xFC,
+        0x00, 0x00, 0x00, 0x00, 0x03, 0xE2, 0x00, 0x1E, 0x55, 0x00, 0x00, 0x00, 0x08, 0x00, 0x08,
+        0x01, 0x02, 0x07, 0x07, 0x19, 0x0A, 0x19, 0x0A, 0x03,
+    ];
+    check(&rt, &late, i64::from(TICKS_PER_DAY) + 256, &octets);
 }
 
 #[test]
-fn the_other_nets(rt: HostRuntime) {
-    let low = event(
-        single(Net::Msaw, 0),
-        Status::First,
-        5,
-        Some(one_figure(513, 1)),
-    );
-    check(
-        &rt,
-        &low,
-        FIRST_CYCLE,
-        &[
-            0xDD, 0x91, 0x02, 0x19, 0x64, 0x04, 0x46, 0x52, 0x00, 0x00, 0x05, 0x02, 0x01, 0x01,
-            0x80, 0x00, 0x02, 0x01, 0x07, 0x04, 0x19, 0x0A, 0x00, 0x00, 0x01,
-        ],
-    );
-    let volume = event(
-        single(Net::Apw, 0),
-        Status::First,
-        0,
-        Some(one_figure(0, 1)),
-    );
-    check(
-        &rt,
-        &volume,
-        FIRST_CYCLE,
-        &[
-            0xDD, 0x91, 0x02, 0x19, 0x64, 0x05, 0x46, 0x52, 0x00, 0x00, 0x00, 0x02, 0x01, 0x01,
-            0x80, 0x00, 0x00, 0x00, 0x07, 0x05, 0x19, 0x0A, 0x00, 0x00, 0x01,
-        ],
-    );
-    let funnel = event(
-        single(Net::Apm, 0x0203),
-        Status::Continuing,
-        0xFFFE,
-        Some(one_figure(0, 0x24)),
-    );
-    check(
-        &rt,
-        &funnel,
-        FIRST_CYCLE,
-        &[
-            0xDD, 0x91, 0x02, 0x19, 0x64, 0x08, 0x46, 0x52, 0x00, 0xFF, 0xFE, 0x04, 0x01, 0x01,
-            0x80, 0x00, 0x00, 0x00, 0x07, 0x08, 0x19, 0x0A, 0x02, 0x03, 0x24,
-        ],
-    );
-    let gone = event(single(Net::Apw, 0x0203), Status::Ended, 0x0102, None);
-    check(
-        &rt,
-        &gone,
-        FIRST_CYCLE,
-        &[
-            0xDD, 0x81, 0x02, 0x19, 0x64, 0x05, 0x46, 0x52, 0x00, 0x01, 0x02, 0x06, 0x01, 0x01,
-            0x07, 0x05, 0x19, 0x0A, 0x02, 0x03, 0x00,
-        ],
-    );
+fn a_track_too_low(rt: HostRuntime) {
+    let low = Event {
+        subject: SINGLE,
+        id: 5,
+        hit: Some(HitData { first: 513, ..NOW }),
+        ..FIRST
+    };
+    let octets = [
+        0xDD, 0x91, 0x02, 0x19, 0x64, 0x04, 0x46, 0x52, 0x00, 0x00, 0x05, 0x02, 0x01, 0x01, 0x80,
+        0x00, 0x02, 0x01, 0x07, 0x04, 0x19, 0x0A, 0x00, 0x00, 0x01,
+    ];
+    check(&rt, &low, FIRST_CYCLE, &octets);
+}
+
+#[test]
+fn a_track_in_the_first_volume(rt: HostRuntime) {
+    let inside = Event {
+        subject: Subject {
+            net: Net::Apw,
+            ..SINGLE
+        },
+        hit: Some(NOW),
+        ..FIRST
+    };
+    let octets = [
+        0xDD, 0x91, 0x02, 0x19, 0x64, 0x05, 0x46, 0x52, 0x00, 0x00, 0x00, 0x02, 0x01, 0x01, 0x80,
+        0x00, 0x00, 0x00, 0x07, 0x05, 0x19, 0x0A, 0x00, 0x00, 0x01,
+    ];
+    check(&rt, &inside, FIRST_CYCLE, &octets);
+}
+
+#[test]
+fn a_track_that_left_a_volume(rt: HostRuntime) {
+    let gone = Event {
+        subject: Subject {
+            net: Net::Apw,
+            object: 0x0203,
+            ..SINGLE
+        },
+        status: Status::Ended,
+        id: 0x0102,
+        hit: None,
+    };
+    let octets = [
+        0xDD, 0x81, 0x02, 0x19, 0x64, 0x05, 0x46, 0x52, 0x00, 0x01, 0x02, 0x06, 0x01, 0x01, 0x07,
+        0x05, 0x19, 0x0A, 0x02, 0x03, 0x00,
+    ];
+    check(&rt, &gone, FIRST_CYCLE, &octets);
+}
+
+#[test]
+fn a_track_below_and_right_of_a_funnel(rt: HostRuntime) {
+    let off = Event {
+        subject: Subject {
+            net: Net::Apm,
+            object: 0x0203,
+            ..SINGLE
+        },
+        status: Status::Continuing,
+        id: 0xFFFE,
+        hit: Some(HitData {
+            flags: BELOW + RIGHT,
+            ..NOW
+        }),
+    };
+    let octets = [
+        0xDD, 0x91, 0x02, 0x19, 0x64, 0x08, 0x46, 0x52, 0x00, 0xFF, 0xFE, 0x04, 0x01, 0x01, 0x80,
+        0x00, 0x00, 0x00, 0x07, 0x08, 0x19, 0x0A, 0x02, 0x03, 0x24,
+    ];
+    check(&rt, &off, FIRST_CYCLE, &octets);
 }
 
 /// The blocks of so many messages of 39 octets, numbered from 0.
 fn blocks_of(packer: &mut Packer, count: u16) -> Result<Vec<u8>, Fail> {
     for id in 0..count {
-        let e = event(pair(), Status::First, id, Some(meeting()));
+        let e = Event { id, ..FIRST };
         packer.push(&write_event(&e, FIRST_CYCLE, SAC, SIC))?;
     }
     Ok(packer.take())

@@ -1,35 +1,34 @@
-use Rattle.std.proofs.Common.{◌≡◌, ℕ, ◌+◌, ◌-◌, ◌≤◌, ◌<◌, ◌⊎◌, List, length, length-drop, take, drop, inl, inr, sym, subst, arith}
+use Rattle.std.proofs.Common.{◌≡◌, ℕ, ◌+◌, ◌-◌, ◌≤◌, ◌<◌, ◌⊎◌, List, length, take, inl, inr, sym, subst, arith}
 use Rattle.std.proofs.lemmas.Bool.Decides.{nat_tests}
 use Rattle.std.proofs.lemmas.List.{length-take}
+use Rattle.cat004_write.specs.declared.message.TheConstants.{MESSAGE_ROOM}
+use Rattle.cat004_write.specs.declared.packer.TheConstants.{PACKED_ROOM}
 use Rattle.cat004_write.specs.Blocks.{Packing, Packs}
-use Rattle.cat004_write.proofs.Packings.{IsWhole-begun, IsWhole-joined, Packs-block_begun, Packs-block_joined, contents_of}
+use Rattle.cat004_write.proofs.Packings.{IsWhole-begun, IsWhole-joined, Packs-block_begun, Packs-block_joined, room_of}
 use Rattle.cat004_write.proofs.packer.Packer.push.Goals as goal
-use Rattle.cat004_write.proofs.packer.Packer.push.Goals.{then-length-eq0-via-then-length-eq0, then-length-eq0-via-else-length-eq0+then-length-message-gt-BLOCK_ROOM}
+use Rattle.cat004_write.proofs.packer.Packer.push.Goals.{then-length-eq0-via-then-length-eq0, then-length-eq0-via-else-length-eq0+then-length-message-gt-PACKED_ROOM}
 
 pub invariant_of-self-then-length-eq0 : goal.invariant_of-self-then-length-eq0
 invariant_of-self-then-length-eq0 c =
     let m : List ℕ = take c.args.m.now.len c.args.m.now.bytes in
     let some : 0 < length m = grind (arith, nat_tests) in
-    let small : length m ≤ 64 = omega (arith, length-take c.args.m.now.len c.args.m.now.bytes) in
+    let small : length m ≤ MESSAGE_ROOM = omega (arith, length-take c.args.m.now.len c.args.m.now.bytes) in
     IsWhole-begun c.self.inside.bytes.items c.begin_block.new.bytes.items m c.len-place.result (omega arith) some small (c.in_ok-begin_block.ensures.ok)
 
 pub returns-then-length-eq0-clause-ok : goal.returns-then-length-eq0-clause-ok
 returns-then-length-eq0-clause-ok c ms h =
     let m : List ℕ = take c.args.m.now.len c.args.m.now.bytes in
     let old : List ℕ = c.self.inside.bytes.items in
-    let small : length m ≤ 64 = omega (arith, length-take c.args.m.now.len c.args.m.now.bytes) in
-    let full : (length old - c.self.inside.last ≡ 0) ⊎ (1400 < length old - c.self.inside.last + length m) =
-    elim c.then-length-eq0.branch [ then-length-eq0-via-then-length-eq0 w ↦ inl (omega arith) | then-length-eq0-via-else-length-eq0+then-length-message-gt-BLOCK_ROOM w ↦ inr (omega arith) ] in
+    let small : length m ≤ MESSAGE_ROOM = omega (arith, length-take c.args.m.now.len c.args.m.now.bytes) in
+    let full : (length old - c.self.inside.last ≡ 0) ⊎ (PACKED_ROOM < length old - c.self.inside.last + length m) =
+    elim c.then-length-eq0.branch [ then-length-eq0-via-then-length-eq0 w ↦ inl (omega arith) | then-length-eq0-via-else-length-eq0+then-length-message-gt-PACKED_ROOM w ↦ inr (omega arith) ] in
     let P : Packing → Type 0 = λ p. Packs p ms in
     let held : P c.args.self.now = h in
     Packs-block_begun old c.begin_block.new.bytes.items m c.self.inside.last c.len-place.result ms c.self.invariant full small (omega arith) c.in_ok-begin_block.ensures.ok (subst P (sym c.self.view_is) held)
 
-pub extend_block-requires-clause-block : goal.extend_block-requires-clause-block
-extend_block-requires-clause-block c =
-    let old : List ℕ = c.self.inside.bytes.items in
-    let some : 0 < length (drop (c.self.inside.last + 3) old) =
-    (contents_of old c.self.inside.last c.self.invariant (omega arith)).0 in
-    omega (arith, some, length-drop (c.self.inside.last + 3) old)
+pub extend_block-requires : goal.extend_block-requires
+extend_block-requires c =
+    room_of c.self.inside.bytes.items _ c.self.inside.last c.self.invariant (omega arith) (omega arith)
 
 pub invariant_of-self-2 : goal.invariant_of-self-2
 invariant_of-self-2 c =
