@@ -8,15 +8,9 @@ use Rattle.replay_cli.specs.declared.site.Site.{Site}
 use Rattle.cat062_read.specs.declared.track.Track.{Track}
 use Rattle.cat062_read.specs.Tracks.{IsInPlane, IsLevelled}
 use Rattle.replay_cli.specs.Rows.{IsSite, IsRow}
-use Rattle.replay_cli.specs.Stamps.{half_day}
+use Rattle.replay_cli.specs.Stamps.{day, half_day}
+use Rattle.replay_cli.specs.Supported.{IsCycle}
 use Rattle.replay_cli.proofs.Signed.{as_is, sum_is}
-
--- a cycle that begins within a day and is short
-pub record IsCycle (start period : ℤ) : Type 0 where
-  pub low : pos 0 ≤ℤ start
-  pub high : start <ℤ pos 11059200
-  pub some : pos 1 ≤ℤ period
-  pub short : period ≤ℤ pos 7680
 
 pub cycle_of : (site : Site) → IsSite site → IsCycle site.start site.period
 cycle_of site of =
@@ -89,7 +83,7 @@ pub greater_below : (a b end : ℤ) → a <ℤ end → b <ℤ end → int_max a 
 greater_below a b end one two = omega (arith, ints, int_max_is a b)
 
 -- a track that is told before the cycle's end is a row of its table
-long_ago : (present at : ℤ) → pos 0 ≤ℤ present → (present -ℤ half_day) ≤ℤ at → pos 0 ≤ℤ (at +ℤ pos 11059200)
+long_ago : (present at : ℤ) → pos 0 ≤ℤ present → (present -ℤ half_day) ≤ℤ at → pos 0 ≤ℤ (at +ℤ day)
 long_ago present at begun near = omega (arith, ints)
 
 from_zero : (start present : ℤ) → pos 0 ≤ℤ start → start ≤ℤ present → pos 0 ≤ℤ present

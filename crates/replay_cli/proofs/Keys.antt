@@ -11,7 +11,7 @@ use Rattle.std.proofs.lemmas.List.{map-append}
 use Rattle.cat062_read.specs.declared.track.Track.{Track}
 use Rattle.cat062_read.specs.declared.track.TrackKey.{TrackKey}
 use Rattle.replay_cli.specs.Cycle.{key_cmp}
-use Rattle.replay_cli.specs.Form.{AreOthers, keys_of}
+use Rattle.replay_cli.specs.Supported.{AreOthers, keys_of}
 use Rattle.replay_cli.proofs.Lists.{each_push}
 use Rattle.replay_cli.proofs.Tables.{all_at}
 

@@ -1,13 +1,14 @@
-pub mod Closest
+pub mod Apart
 pub mod Corrections
-pub mod Current
 pub mod Cycles
 pub mod Ends
 pub mod Keys
 pub mod Lists
 pub mod Messages
+pub mod Moved
+pub mod NoHits
+pub mod Named
 pub mod Read
-pub mod Rooted
 pub mod Signed
 pub mod Sorting
 pub mod Tables

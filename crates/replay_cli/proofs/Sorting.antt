@@ -14,7 +14,7 @@ use Rattle.std.proofs.lemmas.Map.Keys.{apart_from_distinct, IsDistinct-from_sort
 use Rattle.cat062_read.specs.declared.track.Track.{Track}
 use Rattle.cat062_read.specs.declared.track.TrackKey.{TrackKey}
 use Rattle.replay_cli.specs.declared.site.Site.{Site}
-use Rattle.replay_cli.specs.Form.{AreDistinct, AreOthers, IsBuilt, keys_of}
+use Rattle.replay_cli.specs.Supported.{AreDistinct, AreOthers, IsSupported, keys_of}
 use Rattle.replay_cli.specs.Rows.{IsRow}
 use Rattle.replay_cli.specs.Stamps.{later, rows_from}
 use Rattle.replay_cli.specs.declared.table.Row.{Row}
@@ -318,14 +318,14 @@ distinct_tracks present [] apart = tt
 distinct_tracks present (t ∷ ts) apart = (rows_others t.key (later present t) ts apart.0, distinct_tracks (later present t) ts apart.1)
 
 -- of rows that are built none are equal in key order
-pub distinct_sorted : (start period : ℤ) (tracks : List Track) (sorted : List Row) → IsPermutation (rows_from start tracks) sorted → IsBuilt start period tracks → IsDistinct (eq_by_cmp row_cmp) sorted
+pub distinct_sorted : (start period : ℤ) (tracks : List Track) (sorted : List Row) → IsPermutation (rows_from start tracks) sorted → IsSupported start period tracks → IsDistinct (eq_by_cmp row_cmp) sorted
 distinct_sorted start period tracks sorted moved built =
     distinct_permuted (rows_from start tracks) sorted moved (distinct_from_apart (rows_from start tracks) (apart_rows start tracks built.distinct))
 
 -- and rows that ascend are built, where all were told before the cycle's end
-pub built_sorted : (start period : ℤ) (tracks : List Track) (sorted : List Row) → IsPermutation (rows_from start tracks) sorted → IsStrictlySortedBy row_cmp sorted →
-    AllByRecursion (λ (row : Row). row.at <ℤ (start +ℤ period)) (rows_from start tracks) → IsBuilt start period tracks
-built_sorted start period tracks sorted moved up early = record {
+pub supported_sorted : (start period : ℤ) (tracks : List Track) (sorted : List Row) → IsPermutation (rows_from start tracks) sorted → IsStrictlySortedBy row_cmp sorted →
+    AllByRecursion (λ (row : Row). row.at <ℤ (start +ℤ period)) (rows_from start tracks) → IsSupported start period tracks
+supported_sorted start period tracks sorted moved up early = record {
   in_cycle = early;
   distinct = distinct_tracks start tracks (apart_from_sorted (rows_from start tracks) sorted moved up);
 }

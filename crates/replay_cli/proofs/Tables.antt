@@ -7,7 +7,7 @@ use Rattle.std.proofs.lemmas.List.{map-append}
 use Rattle.std.proofs.lemmas.List.Sums.{fold_push}
 use Rattle.cat062_read.specs.declared.track.Track.{Track}
 use Rattle.cat062_read.specs.declared.track.TrackKey.{TrackKey}
-use Rattle.replay_cli.specs.Form.{AreDistinct, AreOthers, IsBuilt, keys_of}
+use Rattle.replay_cli.specs.Supported.{AreDistinct, AreOthers, IsSupported, keys_of}
 use Rattle.replay_cli.proofs.Lists.{each_push}
 use Rattle.replay_cli.proofs.Cycles.{greater_from, greater_below}
 use Rattle.replay_cli.specs.Stamps.{at_near, row_at, later, latest_from, rows_from}
@@ -34,8 +34,8 @@ distinct_others [] key more distinct = tt
 distinct_others (k ∷ ks) key more distinct = (λ same. all_at (λ other. other ≢ k) ks key more distinct.0 (sym same), distinct_others ks key more distinct.1)
 
 -- built with one more track
-pub built_more : (start period : ℤ) (tracks : List Track) (track : Track) → IsBuilt start period tracks →
-    at_near (latest_from start tracks) track.time <ℤ (start +ℤ period) → AreOthers track.key (keys_of tracks) → IsBuilt start period (tracks ++ track ∷ [])
+pub built_more : (start period : ℤ) (tracks : List Track) (track : Track) → IsSupported start period tracks →
+    at_near (latest_from start tracks) track.time <ℤ (start +ℤ period) → AreOthers track.key (keys_of tracks) → IsSupported start period (tracks ++ track ∷ [])
 built_more start period tracks track built before others = record {
   in_cycle = rw (rows_more start tracks track) (each_push (λ row. row.at <ℤ (start +ℤ period)) (rows_from start tracks) (row_at (latest_from start tracks) track) built.in_cycle before);
   distinct = rw (map-append (λ t. t.key) tracks (track ∷ [])) (distinct_more (keys_of tracks) track.key built.distinct others);
@@ -46,7 +46,7 @@ rows_front present [] more = refl
 rows_front present (t ∷ ts) more = ap (λ rows. row_at present t ∷ rows) (rows_front (later present t) ts more)
 
 -- what a track that is built has, whatever follows it
-pub built_at : (start period : ℤ) (tracks : List Track) (track : Track) (more : List Track) → IsBuilt start period (tracks ++ track ∷ more) →
+pub built_at : (start period : ℤ) (tracks : List Track) (track : Track) (more : List Track) → IsSupported start period (tracks ++ track ∷ more) →
     (at_near (latest_from start tracks) track.time <ℤ (start +ℤ period)) × AreOthers track.key (keys_of tracks)
 built_at start period tracks track more built = (
   all_at (λ row. row.at <ℤ (start +ℤ period)) (rows_from start tracks) (row_at (latest_from start tracks) track) (rows_from (later (latest_from start tracks) track) more)
@@ -61,9 +61,9 @@ pub record TimedSoFar (start period present : ℤ) (tracks : List Track) : Type 
   pub in_cycle : present <ℤ (start +ℤ period)
 
 -- the tracks so far are built
-pub record BuiltSoFar (start period present : ℤ) (tracks : List Track) : Type 0 where
+pub record SupportedSoFar (start period present : ℤ) (tracks : List Track) : Type 0 where
   pub timed : TimedSoFar start period present tracks
-  pub built : IsBuilt start period tracks
+  pub built : IsSupported start period tracks
 
 pub timed_none : (start period : ℤ) → pos 1 ≤ℤ period → TimedSoFar start period start []
 timed_none start period some = record { latest = refl; begun = omega (arith, ints); in_cycle = omega (arith, ints) }
@@ -79,16 +79,16 @@ timed_next start period present at tracks track so_far told before = record {
   in_cycle = greater_below present at (start +ℤ period) so_far.in_cycle before;
 }
 
-pub built_next : (start period present at : ℤ) (tracks : List Track) (track : Track) → BuiltSoFar start period present tracks → at ≡ at_near present track.time →
-    at <ℤ (start +ℤ period) → AreOthers track.key (keys_of tracks) → BuiltSoFar start period (int_max present at) (tracks ++ track ∷ [])
-built_next start period present at tracks track so_far told before others = record {
+pub supported_next : (start period present at : ℤ) (tracks : List Track) (track : Track) → SupportedSoFar start period present tracks → at ≡ at_near present track.time →
+    at <ℤ (start +ℤ period) → AreOthers track.key (keys_of tracks) → SupportedSoFar start period (int_max present at) (tracks ++ track ∷ [])
+supported_next start period present at tracks track so_far told before others = record {
   timed = timed_next start period present at tracks track so_far.timed told before;
   built = built_more start period tracks track so_far.built (subst (λ (t : ℤ). t <ℤ (start +ℤ period)) (near_latest start period present at tracks track so_far.timed told) before) others;
 }
 
 -- what a track has that is told next, where all tracks are built
-pub built_here : (start period present at : ℤ) (all before more : List Track) (track : Track) → all ≡ before ++ track ∷ more → TimedSoFar start period present before → at ≡ at_near present track.time →
-    IsBuilt start period all → (at <ℤ (start +ℤ period)) × AreOthers track.key (keys_of before)
-built_here start period present at all before more track split so_far told built =
-    let here = built_at start period before track more (subst (IsBuilt start period) split built) in
+pub supported_here : (start period present at : ℤ) (all before more : List Track) (track : Track) → all ≡ before ++ track ∷ more → TimedSoFar start period present before → at ≡ at_near present track.time →
+    IsSupported start period all → (at <ℤ (start +ℤ period)) × AreOthers track.key (keys_of before)
+supported_here start period present at all before more track split so_far told built =
+    let here = built_at start period before track more (subst (IsSupported start period) split built) in
     (subst (λ (t : ℤ). t <ℤ (start +ℤ period)) (sym (near_latest start period present at before track so_far told)) here.0, here.1)

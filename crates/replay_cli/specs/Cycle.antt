@@ -1,5 +1,5 @@
 -- A cycle: the rows of its table, those that are eligible, the hits of all pairs, and the events (this project's profile).
-use Rattle.std.specs.Prelude.{ℕ, ◌%◌, ◌^◌, Bool, false, ◌&&◌, not, List, [], ◌∷◌, ◌++◌, map, Option, Some, None, ℤ, ◌+ℤ◌, ◌-ℤ◌, ◌==◌, int_le, if◌then◌else◌}
+use Rattle.std.specs.Prelude.{ℕ, ◌%◌, ◌^◌, IfSome, Bool, false, ◌&&◌, not, List, [], ◌∷◌, ◌++◌, map, Option, Some, None, ℤ, ◌+ℤ◌, ◌-ℤ◌, ◌==◌, int_le, if◌then◌else◌}
 use Rattle.std.specs.List.{filter_map, fold, enumerate_from, list_any}
 use Rattle.std.specs.Option.{option_map, option_map_or}
 use Rattle.std.specs.declared.cmp.Ordering.{Ordering}
@@ -10,6 +10,7 @@ use Rattle.cat062_read.specs.declared.track.TrackKey.{TrackKey}
 use Rattle.cat004_write.specs.declared.event.Net.TheVariants.{Stca}
 use Rattle.cat004_write.specs.declared.event.Status.TheVariants.{First}
 use Rattle.cat004_write.specs.declared.event.Event.{Event}
+use Rattle.cat004_write.specs.Messages.{FitsOctets}
 use Rattle.replay_cli.specs.declared.cycle.Hit.{Hit}
 use Rattle.replay_cli.specs.declared.cycle.Mover.{Mover}
 use Rattle.replay_cli.specs.declared.site.Site.{Site}
@@ -29,7 +30,7 @@ row_cmp a b = key_cmp a.track.key b.track.key
 abbrev pub entries_of : List Row → List (TrackKey × Row)
 entries_of rows = map (λ row. (row.track.key, row)) rows
 
--- the table: each key with its row, in key order
+-- the table of supported records, no two of which have one key: each key with its row, in key order
 abbrev pub table : List Row → List (TrackKey × Row)
 table rows = fold (λ entries row. insert_entry key_cmp entries row.track.key row) [] rows
 
@@ -41,7 +42,7 @@ cycle_time site = site.start +ℤ site.period
 abbrev pub is_left_out : Site → Option ℕ → Bool
 is_left_out site code = option_map_or (λ c. list_any (λ d. d == c) site.codes) code false
 
--- a row of the cycle: its track hasn't ended, and was told not longer ago than the site's timeout
+-- a row of the cycle: its track hasn't ended, and its stamp is not longer ago than the site's timeout
 abbrev pub is_recent : Site → Row → Bool
 is_recent site row = not row.track.ended && int_le (cycle_time site -ℤ row.at) site.timeout
 
@@ -77,3 +78,7 @@ first_event hit = record { subject = hit.1.subject; status = First; id = hit.0 %
 
 abbrev pub events : List Hit → List Event
 events hs = map first_event (enumerate_from 0 hs)
+
+-- the figures of an event fit the octets of its message
+abbrev pub FitsMessage : Event → Type 0
+FitsMessage e = IfSome e.hit FitsOctets

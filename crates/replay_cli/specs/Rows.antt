@@ -4,21 +4,24 @@ use Rattle.cat062_read.specs.Tracks.{IsInPlane, IsLevelled}
 use Rattle.replay_cli.specs.declared.site.Site.{Site}
 use Rattle.replay_cli.specs.declared.table.Row.{Row}
 use Rattle.replay_cli.specs.Cycle.{cycle_time}
+use Rattle.replay_cli.specs.declared.motion.TheConstants.{LONGEST_AGE}
+use Rattle.replay_cli.specs.declared.site.TheConstants.{SECOND}
+use Rattle.replay_cli.specs.Stamps.{day}
 use Rattle.replay_cli.specs.Stca.{IsSet}
 
 -- a site's times and correction, in the ranges that a site may give
 pub record IsSite (site : Site) : Type 0 where
   pub start_low : pos 0 ≤ℤ site.start
-  pub start_high : site.start <ℤ pos 11059200
-  pub period_low : pos 128 ≤ℤ site.period
-  pub period_high : site.period ≤ℤ pos 7680
-  pub timeout : site.timeout ≤ℤ pos 7680
+  pub start_high : site.start <ℤ day
+  pub period_low : SECOND ≤ℤ site.period
+  pub period_high : site.period ≤ℤ pos LONGEST_AGE
+  pub timeout : site.timeout ≤ℤ pos LONGEST_AGE
   pub qnh : unsigned_abs site.qnh ≤ 200
   pub set : IsSet site.set
 
--- a row of cycle 0's table: it was told before the cycle's end, at a place and a level within what a record can say
+-- a row of cycle 0's table: its stamp is before the cycle's end, at a place and a level within what a record can say
 pub record IsRow (site : Site) (row : Row) : Type 0 where
-  pub long_ago : pos 0 ≤ℤ (row.at +ℤ pos 11059200)
+  pub long_ago : pos 0 ≤ℤ (row.at +ℤ day)
   pub not_over : row.at <ℤ cycle_time site
   pub place : IsInPlane row.track.x row.track.y
   pub level : IsLevelled row.track

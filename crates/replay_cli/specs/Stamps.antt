@@ -1,24 +1,25 @@
--- When the tracks of a feed were told (this project's profile): times of day go on over midnight.
-use Rattle.std.specs.Prelude.{ℕ, ℤ, pos, ◌+ℤ◌, ◌-ℤ◌, List, [], ◌∷◌}
+-- The stamps of a feed's tracks (this project's profile): times of day go on over midnight.
+use Rattle.std.specs.Prelude.{ℕ, ◌/◌, ℤ, pos, ◌+ℤ◌, ◌-ℤ◌, List, [], ◌∷◌}
 use Rattle.std.specs.List.{fold, filter_map}
 use Rattle.std.specs.Int.{int_rem_euclid, int_max}
 use Rattle.cat062_read.specs.declared.record.Raw062.{Raw062}
 use Rattle.cat062_read.specs.declared.track.Track.{Track}
-use Rattle.cat062_read.specs.Tracks.{track_of, ticks_per_day}
+use Rattle.cat062_read.specs.Tracks.{track_of}
+use Rattle.cat062_read.specs.declared.track.TheConstants.{TICKS_PER_DAY}
 use Rattle.replay_cli.specs.declared.table.Row.{Row}
 
 -- ticks of 1/128 s in a day, and in half of one
 abbrev pub day : ℤ
-day = pos ticks_per_day
+day = pos TICKS_PER_DAY
 
 abbrev pub half_day : ℤ
-half_day = pos 5529600
+half_day = pos (TICKS_PER_DAY / 2)
 
 -- the one time of this time of day from half a day before the present one on and less than half a day after it
 abbrev pub at_near : ℤ → ℕ → ℤ
 at_near present time = (present -ℤ half_day) +ℤ int_rem_euclid (pos time -ℤ (present -ℤ half_day)) day
 
--- a track with the time at which it was told, near to the present one
+-- a track with its stamp, near to the present one
 abbrev pub row_at : ℤ → Track → Row
 row_at present track = record { track = track; at = at_near present track.time }
 

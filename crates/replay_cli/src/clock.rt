@@ -1,4 +1,4 @@
-//! When a track was told.
+//! Stamps: the time that a time of day stands for.
 ghost use Rattle.std.specs.Prelude.{◌≡◌, ◌≤◌, ◌<◌, ◌^◌, unsigned_abs, ◌≤ℤ◌, ◌<ℤ◌, ◌+ℤ◌, ◌-ℤ◌};
 ghost use Rattle.replay_cli.specs.Stamps.{at_near as near, half_day};
 

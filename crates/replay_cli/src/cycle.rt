@@ -2,9 +2,11 @@
 ghost use Rattle.std.specs.Prelude.{◌≡◌, ◌++◌, ◌%◌, ◌^◌, ◌<◌, ◌≤◌, List, ℕ, map, OnOk, IfOk, All, IfSome, IsTrue, pos};
 ghost use Rattle.std.specs.List.{filter_map, AllByRecursion, enumerate_from};
 ghost use Rattle.cat004_write.specs.Messages.{FitsOctets};
+ghost use Rattle.replay_cli.specs.Cycle.{FitsMessage};
 ghost use Rattle.replay_cli.specs.Stca.{IsSet};
 ghost use Rattle.replay_cli.specs.Motions.{InRange};
-ghost use Rattle.replay_cli.specs.Cycle.{cycle_time, entries_of, events, hit_of, hits as hits_of_movers, first_event as first_event_of, is_eligible as eligible, is_recent as recent, mover_of, movers as movers_of_rows};
+ghost use Rattle.replay_cli.specs.Relative.{ArePair};
+ghost use Rattle.replay_cli.specs.Cycle.{cycle_time, entries_of, events as events_of, hit_of, hits as hits_of_movers, first_event as first_event_of, is_eligible as eligible, is_recent as recent, mover_of, movers as movers_of_rows};
 ghost use Rattle.cat062_read.specs.Tracks.{IsInPlane, IsLevelled};
 ghost use Rattle.cat004_write.specs.Blocks.{pack};
 ghost use Rattle.replay_cli.specs.Reference.{messages};
@@ -54,7 +56,7 @@ fn end_of_cycle(site: &Site) -> i64
     site.start + site.period
 }
 
-/// The row's track hasn't ended, and was told not longer ago than the site's timeout.
+/// The row's track hasn't ended, and its stamp is not longer ago than the site's timeout.
 fn is_recent(site: &Site, row: &Row) -> bool
     requires site { IsSite site.now }
     requires row { IsRow site.now row.now }
@@ -81,8 +83,7 @@ fn eligible_mover(site: &Site, row: &Row) -> Option<Mover>
 /// The hit of a pair, a before b in key order.
 fn pair_hit(site: &Site, a: &Mover, b: &Mover) -> Option<Hit>
     requires site { IsSite site.now }
-    requires a { InRange a.now.motion }
-    requires b { InRange b.now.motion }
+    requires pair { ArePair a.now.motion b.now.motion }
     ensures hit { result ≡ hit_of site.now a.now b.now }
     ensures room { IfSome result (λ h. FitsOctets h.figures) }
 {
@@ -155,17 +156,29 @@ fn first_event(number: usize, hit: &Hit) -> Event
     }
 }
 
-/// The blocks of the messages of these hits.
-pub fn blocks(alloc: Global, site: &Site, hits: &[Hit]) -> Result<Vec<u8>, NoMemory>
+/// The events of a cycle with these hits, in the order of the hits.
+pub fn events(alloc: Global, hits: &[Hit]) -> Result<Vec<Event>, NoMemory>
+    requires { AllByRecursion (λ h. FitsOctets h.figures) hits.now }
+    ensures events { IfOk result (λ v. v.items ≡ events_of hits.now) }
+    ensures room { IfOk result (λ v. All FitsMessage v.items) }
+{
+    let mut events = Vec::with_capacity(alloc, hits.len())?;
+    for (number, hit) in hits.iter().enumerate() {
+        events.push(first_event(number, hit))?;
+    }
+    Ok(events)
+}
+
+/// The blocks of the messages of these events.
+pub fn blocks(alloc: Global, site: &Site, events: &[Event]) -> Result<Vec<u8>, NoMemory>
     requires site { IsSite site.now }
-    requires room { AllByRecursion (λ h. FitsOctets h.figures) hits.now }
-    ensures { IfOk result (λ v. v.items ≡ pack (messages site.now (events hits.now))) }
+    requires room { All FitsMessage events.now }
+    ensures { IfOk result (λ v. v.items ≡ pack (messages site.now events.now)) }
 {
     let time = end_of_cycle(site);
     let mut packer = Packer::new(alloc);
-    for (number, hit) in hits.iter().enumerate() {
-        let event = first_event(number, hit);
-        packer.push(&write_event(&event, time, site.sac, site.sic))?;
+    for event in events {
+        packer.push(&write_event(event, time, site.sac, site.sic))?;
     }
     Ok(packer.take())
 }

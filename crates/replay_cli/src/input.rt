@@ -1,24 +1,20 @@
-//! Reading a feed: its records, in whatever pieces it comes.
-ghost use Rattle.std.specs.Prelude.{◌≡◌, ◌≤◌, ◌⊎◌, ◌^◌, List, ℕ, ◌++◌, ◌&&◌, IfOk, OnOk, IsErrOf, All, length};
+//! Reading a feed: its content, in whatever pieces it comes.
+ghost use Rattle.std.specs.Prelude.{◌≡◌, ◌≤◌, ◌⊎◌, ◌++◌, IfOk, OnOk, IsErrOf, All};
 ghost use Rattle.outside_io.specs.Faults.{Rose};
 ghost use Rattle.outside_io.specs.Names.{Lacks};
-ghost use Rattle.asterix_blocks.specs.declared.blocks.Block.{Block};
-ghost use Rattle.asterix_blocks.specs.Cutting.{Cuts};
-ghost use Rattle.asterix_blocks.specs.Framing.{blocks, end};
+ghost use Rattle.asterix_blocks.specs.Cutting.{StandsAt};
 ghost use Rattle.cat062_read.specs.Tracks.{IsPlaced};
-ghost use Rattle.replay_cli.specs.Input.{records_of, is_clean, is_whole};
-ghost use Rattle.replay_cli.specs.Feeds.{ReadsWhole, ReadsNamed, TellsOf};
+ghost use Rattle.replay_cli.specs.Content.{records_of, refusals_of, is_intact as intact};
+ghost use Rattle.replay_cli.specs.Feeds.{AddsBlocks, ReadsWhole, ReadsNamed};
 
 use asterix_blocks::{Block, Cutter, End, FEED_ROOM};
-use cat062_read::{Raw062, read_block};
+use asterix_fields::sizes::HEADER_LENGTH;
+use cat062_read::{CATEGORY, Raw062, Refused, read_block};
 use outside_io::{OpenFault, Source, World};
 use std::alloc::{AllocError, Global};
 
 /// The octets that are asked for at a time.
 const PIECE: usize = 16_384;
-
-/// The category of system tracks.
-const SYSTEM_TRACKS: u8 = 62;
 
 /// Why a feed wasn't read.
 #[derive(Clone, Copy, Debug, PartialEq, Eq)]
@@ -40,60 +36,72 @@ impl From<AllocError> for Unread {
     }
 }
 
-/// The records of a feed, and whether nothing of it is refused and it ends behind a whole block.
+/// The content of blocks, each in the order of the feed.
+#[derive(Debug, Drop)]
+pub struct Gathered {
+    pub records: Vec<Raw062>,
+    pub refused: Vec<Refused>,
+}
+
+/// The content of a feed: its records, what is refused of it with its place, and how it ends.
 #[derive(Debug, Drop)]
 pub struct Input {
     pub records: Vec<Raw062>,
-    pub accepted: bool,
+    pub refused: Vec<Refused>,
+    pub end: End,
 }
 
-/// Adds the records of a block of category 062; a block of another category is passed over.
-fn add_block(alloc: Global, block: &Block, input: &mut Input) -> Result<(), AllocError>
-    requires room { length block.now.body ≤ 65535 }
-    requires early { block.now.offset ≤ 2 ^ 40 }
-    ensures records { OnOk result (input.new.records.items ≡ input.old.records.items ++ records_of block.now) }
-    ensures accepted { OnOk result (input.new.accepted ≡ (input.old.accepted && is_whole block.now)) }
-    ensures placed { OnOk result (All IsPlaced input.old.records.items → All IsPlaced input.new.records.items) }
+impl Input {
+    /// Whether nothing of the feed is refused and it ends behind a whole block.
+    pub fn is_intact(&self) -> bool
+        ensures { result ≡ intact self.now.refused.items self.now.end }
+    {
+        self.refused.is_empty() && matches!(self.end, End::Clean)
+    }
+}
+
+/// Adds the content of a block of category 062; a block of another category is passed over.
+fn add_block(alloc: Global, block: &Block, gathered: &mut Gathered) -> Result<(), AllocError>
+    requires { StandsAt block.now.offset block.now }
+    ensures records { OnOk result (gathered.new.records.items ≡ gathered.old.records.items ++ records_of block.now) }
+    ensures refused { OnOk result (gathered.new.refused.items ≡ gathered.old.refused.items ++ refusals_of block.now) }
+    ensures placed { OnOk result (All IsPlaced gathered.old.records.items → All IsPlaced gathered.new.records.items) }
 {
-    if block.category != SYSTEM_TRACKS {
+    if block.category != CATEGORY {
         return Ok(());
     }
-    let mut read = read_block(alloc, block.body.as_slice(), block.offset)?;
-    input.records.append(&mut read.records)?;
-    input.accepted = input.accepted && read.refused.is_none();
+    let place = block.offset + HEADER_LENGTH as u64;
+    let mut read = read_block(alloc, block.body.as_slice(), place)?;
+    gathered.records.append(&mut read.records)?;
+    if let Some(refused) = read.refused {
+        gathered.refused.push(refused)?;
+    }
     Ok(())
 }
 
 /// Adds the blocks that are whole by now.
-fn add_blocks(alloc: Global, cutter: &mut Cutter, input: &mut Input) -> Result<(), AllocError>
-    ensures told { OnOk result ((fed : List ℕ) (given : List Block) → Cuts cutter.old fed given → TellsOf input.old given →
-        Cuts cutter.new fed (blocks fed) × TellsOf input.new (blocks fed)) }
-    ensures placed { OnOk result (All IsPlaced input.old.records.items → All IsPlaced input.new.records.items) }
+fn add_blocks(alloc: Global, cutter: &mut Cutter, gathered: &mut Gathered) -> Result<(), AllocError>
+    ensures added { OnOk result (AddsBlocks cutter.old cutter.new gathered.old gathered.new) }
+    ensures placed { OnOk result (All IsPlaced gathered.old.records.items → All IsPlaced gathered.new.records.items) }
 {
     while let Some(block) = cutter.next()? {
-        add_block(alloc, &block, input)?;
+        add_block(alloc, &block, gathered)?;
     }
     Ok(())
 }
 
-/// Whether what was fed ends behind a whole block.
-fn ends_clean(cutter: Cutter) -> bool
-    ensures { (fed : List ℕ) (given : List Block) → Cuts cutter fed given → result ≡ is_clean (end fed) }
-{
-    matches!(cutter.finish(), End::Clean)
-}
-
-/// What the feed of a source tells, to its end or to a length that no block has.
+/// The content of what a source has left, to its end or to a length that no block has.
 fn read_whole<S: Source>(alloc: Global, source: &mut S) -> Result<Input, Unread>
     ensures told { IfOk result (λ input. ReadsWhole (S.left source.old) input) }
     ensures placed { IfOk result (λ input. All IsPlaced input.records.items) }
     ensures failed { IsErrOf result Unread.Failed → Rose (S.faults source.old) (S.faults source.new) }
+    ensures kept { (IsErrOf result Unread.Failed → ⊥) → S.faults source.new ≡ S.faults source.old }
     ensures later { S.faults source.old ≤ S.faults source.new }
 {
     let mut cutter = Cutter::new(alloc)?;
-    let mut input = Input {
+    let mut gathered = Gathered {
         records: Vec::new(alloc),
-        accepted: true,
+        refused: Vec::new(alloc),
     };
     let mut piece = [0; PIECE];
     let mut room = FEED_ROOM;
@@ -106,20 +114,27 @@ fn read_whole<S: Source>(alloc: Global, source: &mut S) -> Result<Input, Unread>
             break;
         }
         cutter.feed(&piece[..count])?;
-        add_blocks(alloc, &mut cutter, &mut input)?;
+        add_blocks(alloc, &mut cutter, &mut gathered)?;
         room -= count as u64;
     }
-    let is_clean = ends_clean(cutter);
-    input.accepted = input.accepted && is_clean;
-    Ok(input)
+    Ok(Input {
+        records: gathered.records,
+        refused: gathered.refused,
+        end: cutter.finish(),
+    })
 }
 
-/// What a named feed tells. The feed is closed again, whatever came.
+/// The content of a named feed. The feed is closed again, whatever came.
 pub fn read_feed<W: World>(alloc: Global, world: &mut W, name: &str) -> Result<Input, Unread>
-    ensures files { W.files world.new ≡ W.files world.old }
     ensures told { IfOk result (λ input. ReadsNamed (W.files world.old) name.now input) }
     ensures placed { IfOk result (λ input. All IsPlaced input.records.items) }
     ensures failed { IsErrOf result Unread.Failed → Lacks (W.files world.old) name.now ⊎ Rose (W.faults world.old) (W.faults world.new) }
+    ensures lacking { Lacks (W.files world.old) name.now → IsErrOf result Unread.Failed }
+
+    // What stays as it was.
+    ensures files { W.files world.new ≡ W.files world.old }
+    ensures closed { W.opened world.new ≡ W.opened world.old }
+    ensures kept { (IsErrOf result Unread.Failed → ⊥) → W.faults world.new ≡ W.faults world.old }
     ensures later { W.faults world.old ≤ W.faults world.new }
 {
     let mut feed = match world.open(alloc, name) {

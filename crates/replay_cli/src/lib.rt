@@ -4,16 +4,16 @@
 mod alerts;
 mod clock;
 pub mod cycle;
-mod form;
 mod input;
-mod line;
 pub mod motion;
+mod relative;
 pub mod site;
 mod stca;
+mod supported;
 pub mod table;
 mod top;
 
-pub use form::unbuilt;
+pub use supported::unbuilt;
 pub use top::replay_top;
 
 #[cfg(test)]

@@ -1,5 +1,16 @@
 //! The values that a site sets.
 
+use crate::motion::{HEIGHT_UNITS_PER_25_FT, LENGTH_UNITS_PER_HALF_METRE};
+
+/// Ticks of 1/128 s in a second.
+pub const SECOND: i64 = 128;
+
+/// Length units of 1/512 m in a metre.
+const METRE: i64 = 2 * LENGTH_UNITS_PER_HALF_METRE as i64;
+
+/// Height units in 100 ft.
+const HUNDRED_FEET: i64 = 4 * HEIGHT_UNITS_PER_25_FT as i64;
+
 /// A parameter set: lengths in 1/512 m, heights in 1/30,720 of 25 ft, times in ticks of 1/128 s.
 #[derive(Clone, Copy, Debug)]
 pub struct Set {
@@ -24,7 +35,7 @@ pub struct Site {
     /// When cycle 0 begins, and how long each cycle lasts, in ticks of 1/128 s.
     pub start: i64,
     pub period: i64,
-    /// How long ago a row may have been told, in ticks of 1/128 s.
+    /// How long ago a row's stamp may be, in ticks of 1/128 s.
     pub timeout: i64,
     /// The QNH correction in 25 ft.
     pub qnh: i32,
@@ -37,17 +48,17 @@ pub struct Site {
 pub const SITE: Site = Site {
     sac: 25,
     sic: 100,
-    start: 4_608_000,
-    period: 512,
-    timeout: 2048,
+    start: 36_000 * SECOND,
+    period: 4 * SECOND,
+    timeout: 16 * SECOND,
     qnh: 0,
     codes: [0o7000],
     set: Set {
         stca: true,
-        look: 15_360,
-        split: 35_635_200,
-        now_h: 2_370_560,
-        now_v_low: 614_400,
-        now_v_high: 737_280,
+        look: 120 * SECOND,
+        split: 290 * HUNDRED_FEET,
+        now_h: 4630 * METRE,
+        now_v_low: 5 * HUNDRED_FEET,
+        now_v_high: 6 * HUNDRED_FEET,
     },
 };

@@ -1,47 +1,41 @@
 //! The program as one function over words, a world and sinks.
-ghost use Rattle.std.specs.Prelude.{◌≡◌, ◌≢◌, ◌≤◌, ◌⊎◌, ◌↔◌, ℕ, List, Option, None, IfSome, IsSome, IsOk, IfOk};
-ghost use Rattle.outside_io.specs.Faults.{Rose};
-ghost use Rattle.replay_cli.specs.Reference.{reference, FeedIsBuilt};
-ghost use Rattle.replay_cli.specs.Run.{feed_name, told_feed, LacksFeed, TellsForm, WritesAlerts};
-ghost use Rattle.replay_cli.specs.Outcomes.{IsDone, StopsBy, done_status, status_of};
+ghost use Rattle.std.specs.Prelude.{◌≡◌, ◌≢◌, ◌≤◌, ◌⊎◌, ◌↔◌, None, IfSome, if◌then◌else◌};
 ghost use Rattle.std.specs.Option.{option_copied};
-ghost use Rattle.std.specs.Prelude.{IfErr};
+ghost use Rattle.outside_io.specs.Faults.{Rose};
+ghost use Rattle.replay_cli.specs.Run.{feed_name, told_feed, LacksFeed, Judges, Serves};
+ghost use Rattle.replay_cli.specs.Content.{is_intact as intact};
+ghost use Rattle.replay_cli.specs.Outcomes.{Ends, change, ran, status_of};
 
 use crate::alerts::alert_bytes;
-use crate::input::{Unread, read_feed};
+use crate::input::{Input, Unread, read_feed};
 use crate::site::SITE;
+use crate::table::Unserved;
 use outside_io::{Sink, Sinks, Steps, World, write_whole};
 use std::alloc::Global;
 use std::sync::ledger::Ledger;
+
+/// What was found of a feed whose alert bytes were written whole.
+#[derive(Clone, Copy, Debug, PartialEq, Eq)]
+pub enum Done {
+    /// Nothing of it is refused, and it ends behind a whole block.
+    Intact,
+    /// Something of it is refused, or it is cut off.
+    Damaged,
+}
 
 /// Why a run ended early.
 #[derive(Clone, Copy, Debug, PartialEq, Eq)]
 pub enum Stop {
     /// Other words than `replay NAME`.
     Usage,
-    /// The feed's records aren't built.
-    Unbuilt,
+    /// The feed isn't supported so far.
+    Unsupported,
     /// The name can't be opened, or a read failed.
     Unread,
     /// A write failed.
     Unwritten,
     /// Want of memory.
     NoMemory,
-}
-
-impl Stop {
-    /// The exit status.
-    fn status(self) -> u8
-        ensures { result ≡ status_of self }
-    {
-        match self {
-            Stop::Usage => 2,
-            Stop::Unbuilt => 3,
-            Stop::Unread => 4,
-            Stop::Unwritten => 5,
-            Stop::NoMemory => 6,
-        }
-    }
 }
 
 impl From<Unread> for Stop {
@@ -57,6 +51,21 @@ impl From<Unread> for Stop {
     }
 }
 
+/// The exit status of a run that ended so.
+fn status(ending: Result<Done, Stop>) -> u8
+    ensures { result ≡ status_of ending }
+{
+    match ending {
+        Ok(Done::Intact) => 0,
+        Err(Stop::Usage) => 2,
+        Err(Stop::Unsupported) => 3,
+        Err(Stop::Unread) => 4,
+        Err(Stop::Unwritten) => 5,
+        Err(Stop::NoMemory) => 6,
+        Ok(Done::Damaged) => 7,
+    }
+}
+
 /// The name of the feed in the words `replay NAME`.
 fn named(words: &[String]) -> Option<&str>
     ensures { option_copied result ≡ feed_name words.now }
@@ -67,66 +76,55 @@ fn named(words: &[String]) -> Option<&str>
     }
 }
 
-/// Writes the alert bytes of the feed that the words name, and answers whether nothing of it was refused and
-/// it ends behind a whole block.
+/// Writes the alert bytes of the feed that the words name.
 fn replay<W: World, K: Sink>(
     alloc: Global,
     words: &[String],
     world: &mut W,
     out: &mut K,
-) -> Result<bool, Stop>
-    ensures done { IfOk result (λ accepted. IsDone accepted (record {
-      files = W.files world.old;
-      name = feed_name words.now;
-      feed = told_feed (W.files world.old) words.now;
-      world_before = W.faults world.old;
-      world_after = W.faults world.new;
-      out_before = K.faults out.old;
-      out_after = K.faults out.new;
-      taken_before = K.taken out.old;
-      taken_after = K.taken out.new;
-    })) }
-    ensures stopped { IfErr result (λ stop. StopsBy stop (record {
-      files = W.files world.old;
-      name = feed_name words.now;
-      feed = told_feed (W.files world.old) words.now;
-      world_before = W.faults world.old;
-      world_after = W.faults world.new;
-      out_before = K.faults out.old;
-      out_after = K.faults out.new;
-      taken_before = K.taken out.old;
-      taken_after = K.taken out.new;
-    })) }
-    ensures unused { IfErr result (λ stop. (stop ≡ Stop.Unwritten) ⊎ (out.new ≡ out.old)) }
+) -> Result<Done, Stop>
+    ensures ends { Ends (ran (W.files world.old) words.now
+        (change (W.faults world.old) (W.faults world.new))
+        (change (K.faults out.old) (K.faults out.new))
+        (change (K.taken out.old) (K.taken out.new))) result }
+    ensures lacking { LacksFeed (W.files world.old) words.now → status_of result ≡ 4 }
+
+    // What stays as it was.
+    ensures unfailed { status_of result ≢ 4 → W.faults world.new ≡ W.faults world.old }
+    ensures later { W.faults world.old ≤ W.faults world.new }
+    ensures unbroken { status_of result ≢ 5 → K.faults out.new ≡ K.faults out.old }
+    ensures unused { status_of result ≢ 0 → status_of result ≢ 5 → status_of result ≢ 7 → out.new ≡ out.old }
     ensures files { W.files world.new ≡ W.files world.old }
+    ensures closed { W.opened world.new ≡ W.opened world.old }
 {
     let name = named(words).ok_or(Stop::Usage)?;
     let input = read_feed(alloc, world, name)?;
-    let Ok(found) = alert_bytes(alloc, &SITE, &input.records) else {
-        return Err(Stop::NoMemory);
-    };
-    let Some(alerts) = found else {
-        return Err(Stop::Unbuilt);
+    let alerts = match alert_bytes(alloc, &SITE, &input.records) {
+        Ok(alerts) => alerts,
+        Err(Unserved::Unsupported) => return Err(Stop::Unsupported),
+        Err(Unserved::NoMemory) => return Err(Stop::NoMemory),
     };
     if write_whole(out, &alerts).is_err() {
         return Err(Stop::Unwritten);
     }
-    Ok(input.accepted)
+    Ok(judged(&input))
 }
 
-/// The exit status of a run that was done.
-fn done(accepted: bool) -> u8
-    ensures status { result ≡ done_status accepted }
-    ensures one_of { (result ≡ 0) ⊎ (result ≡ 7) }
+/// Whether a feed whose alert bytes were written is intact.
+fn judged(input: &Input) -> Done
+    ensures { result ≡ (if intact input.now.refused.items input.now.end then Done.Intact else Done.Damaged) }
 {
-    if accepted { 0 } else { 7 }
+    if input.is_intact() {
+        Done::Intact
+    } else {
+        Done::Damaged
+    }
 }
 
 /// Does all that the program does, and answers the exit status: 0 done, 2 for other words than
-/// `replay NAME`, 3 for a feed whose records aren't built, 4 for a name that can't be opened or a read that
+/// `replay NAME`, 3 for a feed that isn't supported so far, 4 for a name that can't be opened or a read that
 /// failed, 5 for a write that failed, 6 for want of memory, 7 done with something refused or a feed that
-/// doesn't end behind a whole block. The order is words, open, read, form, write.
-/// Nothing is written to `report`, and no step is taken.
+/// doesn't end behind a whole block. The order is words, open, read, support, write.
 pub fn replay_top<W: World, K: Sink, L: Ledger>(
     alloc: Global,
     words: &[String],
@@ -137,24 +135,29 @@ pub fn replay_top<W: World, K: Sink, L: Ledger>(
     // No other status comes.
     ensures statuses { (result ≡ 0) ⊎ (result ≡ 2) ⊎ (result ≡ 3) ⊎ (result ≡ 4) ⊎ (result ≡ 5) ⊎ (result ≡ 6) ⊎ (result ≡ 7) }
 
-    // The headline: where the world tells the feed's bytes and they are built, the statuses 0 and 7 have
+    // The headline: where the world tells the feed's bytes and the feed is supported, the statuses 0 and 7 have
     // written the reference's alert bytes to `out`, and any other status a prefix of them.
     ensures headline { IfSome (told_feed (W.files world.old) words.now)
-        (λ feed. FeedIsBuilt SITE feed → WritesAlerts result (K.taken sinks.old.out) (K.taken sinks.new.out) (reference SITE feed)) }
+        (Serves SITE result (K.taken sinks.old.out) (K.taken sinks.new.out)) }
 
     // The cause of each status.
     ensures usage { (result ≡ 2) ↔ (feed_name words.now ≡ None) }
-    ensures form { IfSome (told_feed (W.files world.old) words.now) (TellsForm SITE result) }
+    ensures lacking { LacksFeed (W.files world.old) words.now → result ≡ 4 }
+    ensures support { IfSome (told_feed (W.files world.old) words.now) (Judges SITE result) }
     ensures unread { result ≡ 4 → LacksFeed (W.files world.old) words.now ⊎ Rose (W.faults world.old) (W.faults world.new) }
     ensures unwritten { result ≡ 5 → Rose (K.faults sinks.old.out) (K.faults sinks.new.out) }
 
+    // No fault is passed over.
+    ensures unfailed { result ≢ 4 → W.faults world.new ≡ W.faults world.old }
+    ensures later { W.faults world.old ≤ W.faults world.new }
+    ensures unbroken { result ≢ 5 → K.faults sinks.new.out ≡ K.faults sinks.old.out }
+
     // What stays as it was.
-    ensures report { sinks.new.report ≡ sinks.old.report }
     ensures unused { result ≢ 0 → result ≢ 5 → result ≢ 7 → sinks.new.out ≡ sinks.old.out }
+    ensures report { sinks.new.report ≡ sinks.old.report }
     ensures files { W.files world.new ≡ W.files world.old }
+    ensures closed { W.opened world.new ≡ W.opened world.old }
+    ensures steps { _steps.new ≡ _steps.old }
 {
-    match replay(alloc, words, world, &mut sinks.out) {
-        Ok(accepted) => done(accepted),
-        Err(stop) => stop.status(),
-    }
+    status(replay(alloc, words, world, &mut sinks.out))
 }

@@ -1,5 +1,6 @@
-//! The feeds of the tests.
+//! Feeds and their alerts as octets that were worked out by hand, and blocks put together.
 
+use super::plots::{HEAD_ON, Plot};
 use std::alloc::{AllocError, Global};
 
 /// Two tracks of source 25, 10 at equal levels, 4,000 m from head to head at the cycle's end.
@@ -88,108 +89,50 @@ pub const THREE_ALERTS: [u8; 120] = [
     0x03, 0x07, 0x07, 0x19, 0x0a, 0x19, 0x0a, 0x03,
 ];
 
-/// Blocks of one feed, and where each ends: the first track, one of another category, records of every form
-/// before the second track, and one that tells of other tracks.
+/// A block of another category.
+pub const OTHER_CATEGORY: [u8; 7] = [0x22, 0x00, 0x07, 0x19, 0x0a, 0x01, 0x02];
+
+/// Where each block of the feed of every form ends: the first track, one of another category, records of every
+/// form before the second track, and one that tells of other tracks.
 pub const ENDS: [usize; 4] = [64, 71, 165, 287];
 
 /// A block of category 062 of these records.
 pub fn block_of(alloc: Global, records: &[&[u8]]) -> Result<Vec<u8>, AllocError> {
-    let mut length = 3u16;
-    for record in records {
-        length = length.saturating_add(record.len().min(1_000) as u16);
-    }
-    let [high, low] = length.to_be_bytes();
-    let mut block = Vec::new(alloc);
-    block.extend_from_slice(&[0x3e, high, low])?;
-    for record in records {
-        block.extend_from_slice(record)?;
-    }
-    Ok(block)
+    let body = joined(alloc, records)?;
+    let [.., high, low] = body.len().saturating_add(3).to_be_bytes();
+    joined(alloc, &[&[0x3e, high, low], &body])
 }
 
 /// A feed of every form. Its only alert is that of the first two tracks: of the others one is tentative and
 /// one has ended.
 pub fn every_form(alloc: Global) -> Result<Vec<u8>, AllocError> {
-    let mut tentative = FIRST;
-    tentative[22] = 0x03;
-    tentative[23] = 0x02;
-    let ended = [
-        0x97, 0x0d, 0x24, 0x19, 0x0a, 0x46, 0x51, 0x00, 0x00, 0x00, 0x00, 0x00, 0x00, 0x00, 0x03,
-        0xe8, 0x00, 0x00, 0x01, 0x04, 0x01, 0x40, 0x05, 0x28, 0x00, 0x00,
-    ];
-    let mut feed = USUAL.to_vec(alloc)?;
-    feed.extend_from_slice(&[0x22, 0x00, 0x07, 0x19, 0x0a, 0x01, 0x02])?;
-    feed.append(&mut block_of(alloc, &[&EVERY_FORM, &[0x00], &SECOND[3..]])?)?;
-    let others: [&[u8]; 4] = [&tentative[3..], &[0x01, 0x00, 0x00], &EVERY_FORM, &ended];
-    feed.append(&mut block_of(alloc, &others)?)?;
-    Ok(feed)
+    let tentative = Plot {
+        number: Some(0x0103),
+        status: Some(&[0x02]),
+        ..HEAD_ON
+    };
+    let ended = Plot {
+        number: Some(0x0104),
+        status: Some(&[0x01, 0x40]),
+        ..HEAD_ON
+    };
+    let first = block_of(alloc, &[&EVERY_FORM, &[0x00], &SECOND[3..]])?;
+    let (third, fourth) = (tentative.record(alloc)?, ended.record(alloc)?);
+    let others = block_of(alloc, &[&third, &[0x01, 0x00, 0x00], &EVERY_FORM, &fourth])?;
+    joined(alloc, &[&USUAL, &OTHER_CATEGORY, &first, &others])
 }
 
-/// One block after the other.
-pub fn joined(alloc: Global, blocks: &[[u8; 28]]) -> Result<Vec<u8>, AllocError> {
-    let mut feed = Vec::new(alloc);
-    for block in blocks {
-        feed.extend_from_slice(block)?;
-    }
-    Ok(feed)
+/// A block of the first track's record, and of the same with a spare item, which is refused.
+pub fn half_refused(alloc: Global) -> Result<Vec<u8>, AllocError> {
+    let spare = HEAD_ON.with_spare_item(alloc)?;
+    block_of(alloc, &[&FIRST[3..], &spare])
 }
 
-/// What a block of one record, with the items of `FIRST`, tells of a track of source 25, 10.
-#[derive(Clone, Copy)]
-pub struct Told {
-    pub number: u16,
-    pub time: u32,
-    pub x: i32,
-    pub vx: i16,
-    pub level: i16,
-    pub rate: i16,
-    pub status: u8,
-}
-
-impl Told {
-    /// At a place on the X axis, one tick before the cycle's end, at rest at 33,000 ft.
-    pub fn at(number: u16, x: i32) -> Told {
-        Told {
-            number,
-            time: 4_608_511,
-            x,
-            vx: 0,
-            level: 1320,
-            rate: 0,
-            status: 0,
-        }
+/// These octets, one after the other.
+pub fn joined(alloc: Global, pieces: &[&[u8]]) -> Result<Vec<u8>, AllocError> {
+    let mut octets = Vec::new(alloc);
+    for piece in pieces {
+        octets.extend_from_slice(piece)?;
     }
-
-    pub fn block(&self) -> [u8; 28] {
-        let mut block = FIRST;
-        let [_, t0, t1, t2] = self.time.to_be_bytes();
-        let [_, x0, x1, x2] = self.x.to_be_bytes();
-        let [v0, v1] = self.vx.to_be_bytes();
-        let [n0, n1] = self.number.to_be_bytes();
-        let [l0, l1] = self.level.to_be_bytes();
-        let [r0, r1] = self.rate.to_be_bytes();
-        let octets = [
-            (8, t0),
-            (9, t1),
-            (10, t2),
-            (11, x0),
-            (12, x1),
-            (13, x2),
-            (17, v0),
-            (18, v1),
-            (21, n0),
-            (22, n1),
-            (23, self.status),
-            (24, l0),
-            (25, l1),
-            (26, r0),
-            (27, r1),
-        ];
-        for (place, octet) in octets {
-            if place < 28 {
-                block[place] = octet;
-            }
-        }
-        block
-    }
+    Ok(octets)
 }

@@ -2,7 +2,7 @@ use Rattle.std.proofs.Common.{◌≡◌, take, w64, to_z, of_z, ap, ◌∙◌, a
 use Rattle.std.proofs.lemmas.Int.{ints}
 use Rattle.std.proofs.lemmas.List.{take_all}
 use Rattle.cat004_write.specs.Blocks.{pack}
-use Rattle.replay_cli.specs.Cycle.{events, cycle_time}
+use Rattle.replay_cli.specs.Cycle.{cycle_time}
 use Rattle.replay_cli.specs.Reference.{messages}
 use Rattle.replay_cli.proofs.Signed.{as_is}
 use Rattle.replay_cli.proofs.Messages.{messages_more}
@@ -15,13 +15,13 @@ taken c =
     let high = c.end_of_cycle-time.ensures.high in
     as_is c.end_of_cycle-time.result (omega (arith, ints)) ∙ c.end_of_cycle-time.ensures.time
 
-pub loop-number-preserved : goal.loop-number-preserved
-loop-number-preserved c = λ rest.
-    let more = messages_more c.args.site.now c.args.hits.now c.loop-number.number _ c.first_event-event.result c.loop-number-test.true c.first_event-event.ensures in
+pub loop-event-preserved : goal.loop-event-preserved
+loop-event-preserved c = λ rest.
     let bytes = rw (taken c) at c.write_event.ensures.bytes in
-    rw (more, ← bytes) (c.in_ok-push.ensures.ok (messages c.args.site.now (events (take c.loop-number.number c.args.hits.now))) c.loop-number.invariant rest)
+    let more = messages_more c.args.site.now c.args.events.now c.loop-event.event-index _ _ c.loop-event-test.true bytes in
+    rw more (c.in_ok-push.ensures.ok (messages c.args.site.now (take c.loop-event.event-index c.args.events.now)) c.loop-event.invariant rest)
 
 pub returns : goal.returns
 returns c =
-    c.take.ensures.blocks (messages c.args.site.now (events (take c.loop-number.number c.args.hits.now))) c.loop-number.invariant
-    ∙ ap (λ hs. pack (messages c.args.site.now (events hs))) (take_all c.loop-number.number c.args.hits.now c.loop-number-test.false)
+    c.take.ensures.blocks (messages c.args.site.now (take c.loop-event.event-index c.args.events.now)) c.loop-event.invariant
+    ∙ ap (λ es. pack (messages c.args.site.now es)) (take_all c.loop-event.event-index c.args.events.now c.loop-event-test.false)

@@ -1,12 +1,13 @@
-use Rattle.std.proofs.Common.{◌≡◌, ◌++◌, ◌≤◌, ◌&&◌, Bool, List, [], ℕ, length, length-take-le, take, drop, refl, ap, ◌∙◌, arith}
+use Rattle.std.proofs.Common.{◌≡◌, ◌++◌, ◌≤◌, List, [], ℕ, length, length-take-le, take, drop, refl, ap, ◌∙◌, arith}
 use Rattle.std.proofs.lemmas.List.{length-append, length-take, length-drop, take-append-le}
 use Rattle.asterix_blocks.specs.Framing.{framing_within, blocks}
 use Rattle.replay_cli.specs.declared.input.Input as read
 use Rattle.asterix_blocks.specs.Cutting.{Cuts}
-use Rattle.replay_cli.specs.Feeds.{ReadsWhole, TellsOf}
-use Rattle.replay_cli.proofs.Read.{told_to_end, told_to_room, told_whatever, told_by_fed, told_by_bad, at_end_before, consumes_nothing, consumes_more}
+use Rattle.asterix_blocks.specs.declared.blocks.End.{End}
+use Rattle.replay_cli.specs.Feeds.{ReadsWhole, Gathers}
+use Rattle.replay_cli.proofs.Read.{input_of, read_to_end, read_to_room, read_whatever, read_of_fed, read_of_bad, at_end_before, consumes_nothing, consumes_more}
 use Rattle.replay_cli.proofs.input.read_whole.Goals as goal
-use Rattle.replay_cli.proofs.input.read_whole.Goals.{then-loop-room-test+else-not-has_bad_length, else-loop-room-test, then-loop-room-test+then-not-has_bad_length+in-Ok+then-count-eq0, then-input, else-input}
+use Rattle.replay_cli.proofs.input.read_whole.Goals.{then-loop-room-test+else-not-has_bad_length, else-loop-room-test, then-loop-room-test+then-not-has_bad_length+in-Ok+then-count-eq0}
 
 nothing_framed : blocks [] ≡ []
 unfolding framing_within
@@ -14,11 +15,11 @@ nothing_framed = refl
 
 pub loop-room-init : goal.loop-room-init
 loop-room-init g c = record {
-  read = ([], consumes_nothing (g.S.Source.left c.args.source.now), rw nothing_framed c.in_ok-cutter.ensures.start, (rw nothing_framed c.new-2.ensures.items, rw nothing_framed refl), refl);
+  read = ([], consumes_nothing (g.S.Source.left c.args.source.now), rw nothing_framed c.in_ok-cutter.ensures.start, record { records = rw nothing_framed c.new-2.ensures.items; refused = rw nothing_framed c.new-3.ensures.items }, refl);
   piece = refl;
   within = omega arith;
   placed = λ k d below. absurd (omega (arith, ap length c.new-2.ensures.items));
-  later = omega arith;
+  kept = refl;
 }
 
 pub loop-room-preserved : goal.loop-room-preserved
@@ -37,48 +38,43 @@ loop-room-preserved g c =
     let whole = r.4 in
     let front : take c.in-Ok.count (buffer ++ rest) ≡ next = take-append-le c.in-Ok.count buffer rest within in
     let fed = c.in_ok-feed.ensures.fed r.0 (blocks r.0) r.2 in
-    let told : Cuts c.add_blocks.new.cutter (r.0 ++ next) (blocks (r.0 ++ next)) × TellsOf c.add_blocks.new.input (blocks (r.0 ++ next)) =
-    rw front at (c.in_ok-add_blocks.ensures.told (r.0 ++ take c.in-Ok.count (buffer ++ rest)) (blocks r.0) fed r.3) in
+    let told : Cuts c.add_blocks.new.cutter (r.0 ++ next) (blocks (r.0 ++ next)) × Gathers c.add_blocks.new.gathered (blocks (r.0 ++ next)) =
+    rw front at (c.in_ok-add_blocks.ensures.added (r.0 ++ take c.in-Ok.count (buffer ++ rest)) (blocks r.0) fed r.3) in
     let taken = consumes_more (g.S.Source.left c.args.source.now) (g.S.Source.left c.loop-room.source) (g.S.Source.left c.read.new.self) r.0 next r.1 c.in-Ok.ensures.bytes.0 in
     let long : length next ≡ c.in-Ok.count = length-take-le c.in-Ok.count buffer within in
     let total = length-append r.0 next in
-    let later = c.loop-room.invariant.later in
-    let cause = c.in-Ok.ensures.cause.later in
+    let kept_so_far = c.loop-room.invariant.kept in
+    let kept_here = c.in-Ok.ensures.cause.kept in
     record {
       read = (r.0 ++ next, taken, told.0, told.1, omega arith);
       piece = omega (arith, length-append buffer rest, length-drop c.min-most.result c.loop-room.piece);
       within = omega arith;
       placed = c.in_ok-add_blocks.ensures.placed c.loop-room.invariant.placed;
-      later = omega arith;
+      kept = omega arith;
     }
 
 pub returns-clause-told : goal.returns-clause-told
 returns-clause-told g c =
     let r = c.loop-room.invariant.read in
-    let clean : Bool = c.ends_clean-is_clean.result in
-    let ends = c.ends_clean-is_clean.ensures r.0 (blocks r.0) r.2 in
-    let input : read.Input = record { records = c.loop-room.input.records; accepted = c.loop-room.input.accepted && clean } in
-    let joined : c.if-input.input ≡ (c.loop-room.input.accepted && clean) = elim c.if-input.branch [
-      | then-input w ↦ rw w.if-input.true w.input-is
-      | else-input w ↦ rw w.if-input.false (w.input-is ∙ w.if-input.false)
-    ] in
+    let ended : End = c.finish.result in
+    let ends = c.finish.ensures.end r.0 (blocks r.0) r.2 in
+    let input : read.Input = input_of c.loop-room.gathered ended in
     let left = g.S.Source.left c.args.source.now in
     let left_now = g.S.Source.left c.loop-room.source in
-    let told : ReadsWhole left input = elim c.loop-room-test.branch [
+    elim c.loop-room-test.branch [
       | then-loop-room-test+else-not-has_bad_length w ↦
-          told_whatever left left_now r.0 input r.1 (let whole = r.4 in omega arith)
-          (told_by_bad c.loop-room.cutter c.loop-room.input clean r.0 r.2 r.3 ends w.if-not-has_bad_length.ensures.bad)
+          read_whatever left left_now r.0 input r.1 (let whole = r.4 in omega arith)
+          (read_of_bad c.loop-room.cutter c.loop-room.gathered ended r.0 r.2 r.3 ends w.if-not-has_bad_length.ensures.bad)
       | else-loop-room-test w ↦
           let none = w.loop-room-test.false in
-          told_to_room left left_now r.0 input r.1 (let whole = r.4 in omega arith) (told_by_fed c.loop-room.input clean r.0 r.3 ends)
+          read_to_room left left_now r.0 input r.1 (let whole = r.4 in omega arith) (read_of_fed c.loop-room.gathered ended r.0 r.3 ends)
       | then-loop-room-test+then-not-has_bad_length+in-Ok+then-count-eq0 w ↦
           let none = w.if-count-eq0.true in
           let kept = simp length-take at w.read.auto.buf in
           let most = w.min-most.ensures in
           let piece = c.loop-room.invariant.piece in
           let some = w.loop-room-test.true in
-          told_to_end left left_now r.0 input r.1
+          read_to_end left left_now r.0 input r.1
           (at_end_before left_now (g.S.Source.left w.read.new.self) (rw none at w.in-Ok.ensures.bytes.0) (w.in-Ok.ensures.bytes.1 none (omega arith)))
-          (let whole = r.4 in omega arith) (told_by_fed c.loop-room.input clean r.0 r.3 ends)
-    ] in
-    rw joined told
+          (let whole = r.4 in omega arith) (read_of_fed c.loop-room.gathered ended r.0 r.3 ends)
+    ]

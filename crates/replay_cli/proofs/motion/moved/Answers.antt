@@ -1,29 +1,37 @@
-use Rattle.std.proofs.Common.{w16, w32, w64, FitsSigned, rules}
-use Rattle.std.proofs.lemmas.Int.{to_z-of_z}
+use Rattle.std.proofs.Common.{◌≡◌, pos, ◌*ℤ◌, ◌+ℤ◌, ap, ◌∙◌, arith, w16, w32, w64, FitsSigned, to_z, of_z}
+use Rattle.std.specs.Int.RustNames.{unsigned_abs}
+use Rattle.std.proofs.lemmas.Int.{ints, to_z-of_z, fits_signed_from_abs}
+use Rattle.replay_cli.specs.Motions.{moved_on}
+use Rattle.replay_cli.proofs.Moved.{IsMeasured, moved_bound, moved_is, sum_fits}
 use Rattle.replay_cli.proofs.motion.moved.Goals as goal
+use Rattle.replay_cli.proofs.motion.moved.Goals.{After-from-4}
 
-pub returns-clause-motion : goal.returns-clause-motion
-returns-clause-motion c =
-    let x : FitsSigned w32 c.args.track.now.x = search rules in
-    let y : FitsSigned w32 c.args.track.now.y = search rules in
-    let vx : FitsSigned w16 c.args.track.now.vx = search rules in
-    let vy : FitsSigned w16 c.args.track.now.vy = search rules in
-    let rate : FitsSigned w16 c.args.track.now.rate = search rules in
+told : (c : After-from-4) → IsMeasured c.args.units c.args.value c.args.speed c.args.age
+told c =
+    let units = c.ranges.units in
+    let value = c.ranges.value in
+    let speed = c.ranges.speed in
     let age = c.ranges.age in
-    let level = c.ranges.level in
-    let altitude = c.ranges.altitude in
-    let fx : FitsSigned w64 c.moved_along.result = search rules in
-    let fy : FitsSigned w64 c.moved_along-2.result = search rules in
-    let fz : FitsSigned w64 c.moved_along-3.result = search rules in
-    let fa : FitsSigned w64 c.moved_along-4.result = search rules in
-    let fvx : FitsSigned w64 c.from.result = search rules in
-    let fvy : FitsSigned w64 c.from-2.result = search rules in
-    let fvz : FitsSigned w64 c.from-3.result = search rules in
-    let ex = simp to_z-of_z at c.moved_along.ensures.place in
-    let ey = simp to_z-of_z at c.moved_along-2.ensures.place in
-    let ez = simp to_z-of_z at c.moved_along-3.ensures.place in
-    let ea = simp to_z-of_z at c.moved_along-4.ensures.place in
-    let evx = simp to_z-of_z at c.from.ensures in
-    let evy = simp to_z-of_z at c.from-2.ensures in
-    let evz = simp to_z-of_z at c.from-3.ensures in
-    simp to_z-of_z (cc)
+    record { few_units = omega (arith, ints); short = omega (arith, ints); slow = omega (arith, ints); young = omega (arith, ints) }
+
+pub overflow_add-result : goal.overflow_add-result
+overflow_add-result c =
+    let value : FitsSigned w32 c.args.value = c.ranges.value in
+    let speed : FitsSigned w16 c.args.speed = c.ranges.speed in
+    let from_value = simp to_z-of_z at c.from-2.ensures in
+    let from_speed = simp to_z-of_z at c.from-3.ensures in
+    rw (c.from.ensures, from_value, from_speed, c.from-4.ensures) (sum_fits c.args.units c.args.value c.args.speed c.args.age (told c))
+
+place : (c : After-from-4) → to_z w64 (of_z w64 (to_z w64 (of_z w64 (to_z w64 (of_z w64 c.from.result) *ℤ to_z w64 (of_z w64 c.from-2.result))) +ℤ to_z w64 (of_z w64 (to_z w64 (of_z w64 c.from-3.result) *ℤ to_z w64 (of_z w64 c.from-4.result))))) ≡ moved_on c.args.units c.args.value c.args.speed (pos c.args.age)
+place c =
+    let value : FitsSigned w32 c.args.value = c.ranges.value in
+    let speed : FitsSigned w16 c.args.speed = c.ranges.speed in
+    let from_value = simp to_z-of_z at c.from-2.ensures in
+    let from_speed = simp to_z-of_z at c.from-3.ensures in
+    rw (c.from.ensures, from_value, from_speed, c.from-4.ensures) (moved_is c.args.units c.args.value c.args.speed c.args.age (told c))
+
+pub returns-clause-place : goal.returns-clause-place
+returns-clause-place c = place c
+
+pub returns-clause-bound : goal.returns-clause-bound
+returns-clause-bound c = rw (place c) (moved_bound c.args.units c.args.value c.args.speed c.args.age (told c))

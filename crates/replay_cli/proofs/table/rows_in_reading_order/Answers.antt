@@ -11,7 +11,7 @@ use Rattle.replay_cli.specs.Rows.{IsRow}
 use Rattle.replay_cli.specs.Stamps.{latest_from, rows_from, row_at}
 use Rattle.replay_cli.proofs.Cycles.{cycle_of, correction_is, start_is, end_is, near_is, later_is, is_late, is_early, row_of}
 use Rattle.replay_cli.proofs.Lists.{found_at, found_more, none_more}
-use Rattle.replay_cli.proofs.Tables.{timed_none, timed_next, near_latest, built_here, rows_more}
+use Rattle.replay_cli.proofs.Tables.{timed_none, timed_next, near_latest, supported_here, rows_more}
 use Rattle.replay_cli.proofs.table.rows_in_reading_order.Goals as goal
 use Rattle.replay_cli.proofs.table.rows_in_reading_order.Goals.{in-Some+else-end-at+in_ok-push, in_default}
 
@@ -28,7 +28,7 @@ loop-raw-init c =
     }
 
 pub returns-then-end-at-clause-late : goal.returns-then-end-at-clause-late
-returns-then-end-at-clause-late c = λ built.
+returns-then-end-at-clause-late c = λ _ supported.
     let start : ℤ = c.args.site.now.start in
     let period : ℤ = c.args.site.now.period in
     let cycle = cycle_of c.args.site.now c.requires.site in
@@ -37,7 +37,7 @@ returns-then-end-at-clause-late c = λ built.
     let more : List Track = tracks c.args.site.now (drop (c.loop-raw.raw-index + 1) c.args.records.now) in
     let so_far = c.loop-raw.invariant.so_far in
     let split = found_at (λ raw. track_of raw c.args.site.now.qnh) c.args.records.now c.loop-raw.raw-index _ c.in-Some.track c.loop-raw-test.true (rw (correction_is c.args.site.now c.requires.site) at (sym c.in-Some.ensures.track)) in
-    let here = built_here start period present c.at_near-at.result (tracks c.args.site.now c.args.records.now) before more c.in-Some.track split so_far c.at_near-at.ensures.at built in
+    let here = supported_here start period present c.at_near-at.result (tracks c.args.site.now c.args.records.now) before more c.in-Some.track split so_far c.at_near-at.ensures.at supported in
     let at = near_is start period present c.at_near-at.result cycle so_far.begun so_far.in_cycle c.at_near-at.ensures.low c.at_near-at.ensures.high in
     is_late (start +ℤ period) c.at_near-at.result (rw (end_is start period cycle, at) at c.if-end-at.true) here.0
 

@@ -8,7 +8,7 @@ use Rattle.replay_cli.specs.Cycle.{row_cmp}
 use Rattle.replay_cli.specs.Reference.{tracks}
 use Rattle.replay_cli.specs.Rows.{IsRow}
 use Rattle.replay_cli.specs.Stamps.{rows_from}
-use Rattle.replay_cli.proofs.Sorting.{sorted_is_table, distinct_sorted, built_sorted, each_of, early_rows}
+use Rattle.replay_cli.proofs.Sorting.{sorted_is_table, distinct_sorted, supported_sorted, each_of, early_rows}
 use Rattle.replay_cli.proofs.table.table.Goals as goal
 
 pub has_equal_keys-requires : goal.has_equal_keys-requires
@@ -16,36 +16,36 @@ has_equal_keys-requires c =
     let sorted : IsSorted row_cmp c.sort_unstable_by_key.new.self.items = c.sort_unstable_by_key.ensures.sorted (λ (row : Row). row.track.key) (answers_always _ _ _ (λ f a r q k. search rules)) in
     rw c.deref.ensures.value sorted
 
-pub returns-then-has_equal_keys-clause-unbuilt : goal.returns-then-has_equal_keys-clause-unbuilt
-returns-then-has_equal_keys-clause-unbuilt c = λ built.
+pub returns-then-has_equal_keys-clause-unsupported : goal.returns-then-has_equal_keys-clause-unsupported
+returns-then-has_equal_keys-clause-unsupported c = λ _ supported.
     let told : List Track = tracks c.args.site.now c.args.records.now in
     let rows : List Row = rows_from c.args.site.now.start told in
     let sorted : List Row = c.sort_unstable_by_key.new.self.items in
-    let read : c.in-Some.rows.items ≡ rows = rw c.in-Some.is at c.in_ok-rows.ensures.rows in
+    let read : c.in_ok-rows.rows.items ≡ rows = c.in_ok-rows.ensures.rows in
     let moved : IsPermutation rows sorted = rw read at c.sort_unstable_by_key.ensures.permutation in
-    c.if-has_equal_keys.ensures.equal (rw c.deref.ensures.value (distinct_sorted c.args.site.now.start c.args.site.now.period told sorted moved built))
+    c.if-has_equal_keys.ensures.equal (rw c.deref.ensures.value (distinct_sorted c.args.site.now.start c.args.site.now.period told sorted moved supported))
 
-pub returns-clause-built : goal.returns-clause-built
-returns-clause-built c =
+pub returns-clause-supported : goal.returns-clause-supported
+returns-clause-supported c =
     let told : List Track = tracks c.args.site.now c.args.records.now in
     let rows : List Row = rows_from c.args.site.now.start told in
     let sorted : List Row = c.sort_unstable_by_key.new.self.items in
-    let read : c.in-Some.rows.items ≡ rows = rw c.in-Some.is at c.in_ok-rows.ensures.rows in
+    let read : c.in_ok-rows.rows.items ≡ rows = c.in_ok-rows.ensures.rows in
     let moved : IsPermutation rows sorted = rw read at c.sort_unstable_by_key.ensures.permutation in
-    let each : All (IsRow c.args.site.now) rows = rw read at (rw c.in-Some.is at c.in_ok-rows.ensures.each) in
+    let each : All (IsRow c.args.site.now) rows = rw read at c.in_ok-rows.ensures.each in
     let rising : IsStrictlySortedBy row_cmp sorted = rw c.deref.ensures.value at c.if-has_equal_keys.ensures.ascending in
-    built_sorted c.args.site.now.start c.args.site.now.period told sorted moved rising (early_rows c.args.site.now rows (each_of (IsRow c.args.site.now) rows each))
+    supported_sorted c.args.site.now.start c.args.site.now.period told sorted moved rising (early_rows c.args.site.now rows (each_of (IsRow c.args.site.now) rows each))
 
 pub returns-clause-rows : goal.returns-clause-rows
 returns-clause-rows c =
     let told : List Track = tracks c.args.site.now c.args.records.now in
     let rows : List Row = rows_from c.args.site.now.start told in
     let sorted : List Row = c.sort_unstable_by_key.new.self.items in
-    let read : c.in-Some.rows.items ≡ rows = rw c.in-Some.is at c.in_ok-rows.ensures.rows in
+    let read : c.in_ok-rows.rows.items ≡ rows = c.in_ok-rows.ensures.rows in
     let moved : IsPermutation rows sorted = rw read at c.sort_unstable_by_key.ensures.permutation in
     let rising : IsStrictlySortedBy row_cmp sorted = rw c.deref.ensures.value at c.if-has_equal_keys.ensures.ascending in
     sorted_is_table rows sorted moved rising
 
 pub returns-clause-each : goal.returns-clause-each
 returns-clause-each c =
-    All-permutation (IsRow c.args.site.now) c.in-Some.rows.items c.sort_unstable_by_key.new.self.items c.sort_unstable_by_key.ensures.permutation (rw c.in-Some.is at c.in_ok-rows.ensures.each)
+    All-permutation (IsRow c.args.site.now) c.in_ok-rows.rows.items c.sort_unstable_by_key.new.self.items c.sort_unstable_by_key.ensures.permutation c.in_ok-rows.ensures.each

@@ -1,0 +1,49 @@
+-- The content of a feed: the records of its blocks of category 062, what is refused of them, and how it ends (this project's profile).
+use Rattle.std.specs.Prelude.{ℕ, ◌+◌, ◌==◌, Bool, true, false, List, [], ◌∷◌, if◌then◌else◌}
+use Rattle.std.specs.List.{flat_map, cons_option}
+use Rattle.asterix_blocks.specs.declared.blocks.Block.{Block}
+use Rattle.asterix_blocks.specs.declared.blocks.End.{End}
+use Rattle.asterix_blocks.specs.declared.blocks.End.TheVariants.{Clean, Truncated, BadLength}
+use Rattle.asterix_blocks.specs.Framing.{Framing, framing}
+use Rattle.cat062_read.specs.Records.{records, refusal, refused_from}
+use Rattle.cat062_read.specs.declared.record.Raw062.{Raw062}
+use Rattle.cat062_read.specs.declared.table.TheConstants.{CATEGORY}
+use Rattle.asterix_fields.specs.declared.sizes.TheConstants.{HEADER_LENGTH}
+use Rattle.cat062_read.specs.declared.body.Refused.{Refused}
+
+-- the records of a block: those of its body, or none where it is of another category
+abbrev pub records_of : Block → List Raw062
+records_of block = if block.category == CATEGORY then records block.body else []
+
+-- what is refused of a block, with its place in the feed: nothing where it is of another category
+abbrev pub refusals_of : Block → List Refused
+refusals_of block =
+    if block.category == CATEGORY
+    then cons_option (refused_from (block.offset + HEADER_LENGTH) (refusal block.body)) []
+    else []
+
+-- the records of a feed in order, what is refused of it in order, and its end
+pub record Content : Type 0 where
+  pub records : List Raw062
+  pub refused : List Refused
+  pub end : End
+
+abbrev pub content_by : Framing → Content
+content_by framing = record { records = flat_map records_of framing.blocks; refused = flat_map refusals_of framing.blocks; end = framing.end }
+
+abbrev pub content : List ℕ → Content
+content feed = content_by (framing feed)
+
+-- the end is behind a whole block
+abbrev pub is_clean : End → Bool
+is_clean Clean = true
+is_clean (Truncated offset) = false
+is_clean (BadLength offset) = false
+
+-- nothing is refused, and the end is clean
+abbrev pub is_intact : List Refused → End → Bool
+is_intact [] end = is_clean end
+is_intact (refused ∷ others) end = false
+
+abbrev pub feed_is_intact : List ℕ → Bool
+feed_is_intact feed = is_intact (content feed).refused (content feed).end

@@ -1,0 +1,116 @@
+//! What is read of a feed: its records, what is refused of it and where, and how it ends.
+
+use super::feeds::{
+    ENDS, FIRST, OTHER_CATEGORY, SECOND, block_of, every_form, half_refused, joined,
+};
+use super::outside::{NAME, Outside, world_of};
+use crate::input::{Input, read_feed};
+use asterix_blocks::{End, frame};
+use cat062_read::{Refused, read_block};
+use std::alloc::{AllocError, Global};
+use std::process::Abort;
+use std::test::Fail;
+
+/// What a feed tells, from whole lists.
+pub fn plain(rt: &impl Abort, alloc: Global, feed: &[u8]) -> Result<Input, AllocError> {
+    assert!(rt; feed.len() <= 65_535);
+    let framed = frame(alloc, feed)?;
+    let mut records = Vec::new(alloc);
+    let mut refused = Vec::new(alloc);
+    for block in &framed.blocks {
+        let body = block.body.as_slice();
+        if block.category == 62 {
+            assert!(rt; body.len() <= 65_535 && block.offset <= 65_535);
+            let read = read_block(alloc, body, block.offset + 3)?;
+            records.extend(read.records)?;
+            refused.extend(read.refused)?;
+        }
+    }
+    Ok(Input {
+        records,
+        refused,
+        end: framed.end,
+    })
+}
+
+/// What is read of the feed. Whole lists tell the same.
+fn content(rt: &impl Abort, alloc: Global, outside: Outside<'_>) -> Result<Input, Fail> {
+    let mut world = world_of(alloc, outside)?;
+    let input = read_feed(alloc, &mut world, NAME)?;
+    let expected = plain(rt, alloc, outside.feed)?;
+    assert!(rt; input.records.as_slice() == expected.records.as_slice());
+    assert!(rt; input.refused.as_slice() == expected.refused.as_slice());
+    assert_eq!(rt; input.end, expected.end);
+    Ok(input)
+}
+
+/// The feed of every form is cut off at each place, and read in two pieces.
+#[test]
+fn every_form_cut_off(rt: HostRuntime) -> Result<(), Fail> {
+    let alloc = rt.alloc();
+    let feed = every_form(alloc)?;
+    for place in 0..288usize {
+        let outside = Outside {
+            cuts: &[place as u32 / 2],
+            ..Outside::of(&feed[..place.min(feed.len())])
+        };
+        let input = content(&rt, alloc, outside)?;
+        assert!(rt; input.refused.is_empty());
+        assert_eq!(rt; input.is_intact(), place == 0 || ENDS.contains(&place));
+    }
+    Ok(())
+}
+
+/// What is refused, a line each: the place of the first octet that begins no record, and the fault.
+fn listed(alloc: Global, refused: &[Refused]) -> Result<String, Fail> {
+    let mut lines = String::new(alloc);
+    for refusal in refused {
+        let line = format!(in alloc; "{} {:?}\n", refusal.offset, refusal.fault)?;
+        lines.push_str(&line)?;
+    }
+    Ok(lines)
+}
+
+/// Checks a feed of two records that ends behind a whole block.
+fn check(
+    rt: &impl Abort,
+    alloc: Global,
+    blocks: &[&[u8]],
+    refused: &str,
+    what: &str,
+) -> Result<(), Fail> {
+    let feed = joined(alloc, blocks)?;
+    let input = content(rt, alloc, Outside::of(&feed))?;
+    assert_eq!(rt; listed(alloc, &input.refused)?.as_str(), refused, "{what}");
+    assert_eq!(rt; input.records.len(), 2, "{what}");
+    assert_eq!(rt; input.end, End::Clean, "{what}");
+    assert_eq!(rt; input.is_intact(), refused.is_empty(), "{what}");
+    Ok(())
+}
+
+/// A block of 53 octets, whose second record is refused, in several feeds.
+#[test]
+fn places_of_refusals(rt: HostRuntime) -> Result<(), Fail> {
+    let alloc = rt.alloc();
+    let half = half_refused(alloc)?;
+    assert!(rt; half.starts_with(&[0x3e, 0x00, 0x35]));
+    check(&rt, alloc, &[&FIRST, &SECOND], "", "nothing")?;
+    let place = "28 SpareItem(2)\n";
+    check(&rt, alloc, &[&half, &SECOND], place, "the first block")?;
+    let place = "56 SpareItem(2)\n";
+    check(&rt, alloc, &[&SECOND, &half], place, "behind a block")?;
+    let place = "35 SpareItem(2)\n";
+    let passed: [&[u8]; 3] = [&OTHER_CATEGORY, &half, &SECOND];
+    check(&rt, alloc, &passed, place, "behind another category")?;
+    Ok(())
+}
+
+#[test]
+fn refusals_of_two_blocks(rt: HostRuntime) -> Result<(), Fail> {
+    let alloc = rt.alloc();
+    let half = half_refused(alloc)?;
+    let short = block_of(alloc, &[&FIRST[3..], &FIRST[3..27]])?;
+    let places = "28 SpareItem(2)\n81 PastEnd(20)\n";
+    check(&rt, alloc, &[&half, &short], places, "in order")?;
+    Ok(())
+}
