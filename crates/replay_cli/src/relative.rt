@@ -120,7 +120,7 @@ impl Relative {
 }
 
 /// A distance along an axis is below a limit, in either direction.
-fn is_within(distance: i64, limit: i64) -> bool
+pub fn is_within(distance: i64, limit: i64) -> bool
     ensures { result ≡ int_lt (pos (unsigned_abs distance)) limit }
 {
     distance < limit && -limit < distance

@@ -1,11 +1,11 @@
 //! Short term conflict alert: which pairs are hit, and the figures of a hit.
-ghost use Rattle.std.specs.Prelude.{◌≡◌, IfSome, min, unsigned_abs};
+ghost use Rattle.std.specs.Prelude.{◌≡◌, ◌≤ℤ◌, pos, false, IfSome, IsTrue, min, unsigned_abs};
 ghost use Rattle.cat004_write.specs.Messages.{FitsOctets};
-ghost use Rattle.replay_cli.specs.Relative.{ArePair};
-ghost use Rattle.replay_cli.specs.Stca.{IsSet, figures as figures_of, now_v as limit_of, stca_hit};
+ghost use Rattle.replay_cli.specs.Relative.{ArePair, relative};
+ghost use Rattle.replay_cli.specs.Stca.{IsSet, figures as figures_of, is_near, now_v as limit_of, stca_hit};
 
 use crate::motion::Motion;
-use crate::relative::Relative;
+use crate::relative::{Relative, is_within};
 use crate::site::Set;
 use cat004_write::{CURRENT_PROXIMITY, HitData, URGENT};
 
@@ -21,6 +21,29 @@ const URGENT_AND_CURRENT: u8 = URGENT + CURRENT_PROXIMITY;
 /// The figures of a pair of tracks that short term conflict alert is for, a before b in key order. None
 /// where the pair isn't hit.
 pub fn examine(a: &Motion, b: &Motion, set: &Set) -> Option<HitData>
+    requires pair { ArePair a.now b.now }
+    requires set { IsSet set.now }
+    ensures hit { result ≡ stca_hit a.now b.now set.now }
+    ensures room { IfSome result FitsOctets }
+{
+    if are_far(a, b, set.now_h) {
+        return None;
+    }
+    examine_near(a, b, set)
+}
+
+/// Along one axis alone the two are now as far from each other as the limit, or farther. Looked at before
+/// anything else of a pair.
+fn are_far(a: &Motion, b: &Motion, limit: i64) -> bool
+    requires pair { ArePair a.now b.now }
+    requires limit { pos 0 ≤ℤ limit }
+    ensures { IsTrue result → is_near (relative a.now b.now) limit ≡ false }
+{
+    !is_within(b.x - a.x, limit) || !is_within(b.y - a.y, limit)
+}
+
+/// The same as `examine`, of two tracks whatever their distance.
+fn examine_near(a: &Motion, b: &Motion, set: &Set) -> Option<HitData>
     requires pair { ArePair a.now b.now }
     requires set { IsSet set.now }
     ensures hit { result ≡ stca_hit a.now b.now set.now }
