@@ -1,0 +1,90 @@
+//! The entries of a repeated table, by their names.
+
+ghost use Rattle.std.specs.Prelude.{◌≡◌, ◌≢◌, ◌<◌, ◌^◌, pos, [], ◌∷◌, ◌++◌, IfOk, IfErr, IfSome, IfNone, Ok, Err, length, position, vec_len};
+ghost use Rattle.std.specs.Str.{bytes_eq};
+ghost use Rattle.site_params.specs.declared.fault.SiteFault.TheVariants.{NoMemory};
+ghost use Rattle.site_params.specs.Kinds.{place};
+ghost use Rattle.site_params.specs.Lists.{table_views};
+ghost use Rattle.site_params.specs.Entries.{tables, own_name, JoinsName};
+ghost use Rattle.site_params.specs.Ranges.{IsWithin};
+
+use crate::fault::SiteFault;
+use crate::kinds::Place;
+use crate::lists::tables_of;
+use crate::ranges::{Limits, NAME_LENGTH, within};
+use indexmap::IndexSet;
+use std::alloc::{AllocError, Global};
+use std::marker::Model;
+use toml::Table;
+
+/// The names of a table's entries, in file order.
+#[derive(Drop)]
+pub struct Names<'a> {
+    names: IndexSet<&'a str>,
+}
+
+impl<'a> Model for Names<'a> {
+    ghost use Rattle.std.specs.Prelude.{List, ℕ, map};
+
+    ghost Value = { List (List ℕ) };
+
+    ghost view = { λ n. map (λ name. name.now) n.names.keys };
+}
+
+impl<'a> Names<'a> {
+    /// No names.
+    pub fn new(alloc: Global) -> Names<'a>
+        ensures { result ≡ [] }
+    {
+        Names {
+            names: IndexSet::new(alloc),
+        }
+    }
+
+    /// Adds the name of the next entry. Where an earlier entry has it, answers that one.
+    pub fn add(&mut self, name: &'a str) -> Result<Option<usize>, AllocError>
+        ensures earlier { IfOk result (λ earlier. earlier ≡ position (bytes_eq name.now) self.old) }
+        ensures inside { IfOk result (λ earlier. IfSome earlier (λ first. first < length self.old)) }
+        ensures added { IfOk result (λ earlier. IfNone earlier (self.new ≡ self.old ++ name.now ∷ [])) }
+    {
+        let (index, is_new) = self.names.insert_full(name)?;
+        Ok(if is_new { None } else { Some(index) })
+    }
+}
+
+impl<'a> Place<'a> {
+    /// A repeated table: its entries, so many.
+    #[tactic(auto, unfolding(crate::specs::Entries::tables))]
+    pub fn tables(
+        &self,
+        alloc: Global,
+        number: u16,
+        key: &str,
+        count: Limits,
+    ) -> Result<Vec<&'a Table>, SiteFault>
+        ensures ok { IfOk result (λ found. tables number key.now count (place self.now) ≡ Ok (table_views found.items)) }
+        ensures fault { IfErr result (λ e. e ≢ NoMemory → tables number key.now count (place self.now) ≡ Err e) }
+        ensures inside { IfOk result (λ found. IsWithin count (pos (vec_len found))) }
+    {
+        let at = self.field(number);
+        let tables = tables_of(alloc, at, self.required(number, key)?)?;
+        within(at, count, tables.len() as i64)?;
+        Ok(tables)
+    }
+
+    /// The entry's name, which is none of these names of the entries before it. It joins them.
+    #[tactic(auto, unfolding(crate::specs::Entries::own_name))]
+    pub fn own_name(&self, number: u16, key: &str, names: &mut Names<'a>) -> Result<(), SiteFault>
+        requires { length names.old < 2 ^ 32 }
+        ensures ok { IfOk result (λ _. JoinsName (own_name number key.now names.old (place self.now)) names.old names.new) }
+        ensures fault { IfErr result (λ e. e ≢ NoMemory → own_name number key.now names.old (place self.now) ≡ Err e) }
+    {
+        let at = self.field(number);
+        let name = self.text(number, key)?;
+        within(at, NAME_LENGTH, name.len() as i64)?;
+        match names.add(name)? {
+            None => Ok(()),
+            Some(first) => Err(SiteFault::Twice(at, first as u32)),
+        }
+    }
+}
