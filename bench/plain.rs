@@ -1,7 +1,7 @@
 //! The yardstick of the bench: what the proved program does, on the same words, in plain Rust with the
 //! standard library alone. It was written from the definitions and shares no code with the crates.
 //!
-//! Exit statuses: 0 done, 2 other words than `replay NAME`, 3 a feed that isn't built, 4 a feed that can't
+//! Exit statuses: 0 done, 2 other words than `replay --site SITE NAME`, 3 a feed that isn't built, 4 a feed that can't
 //! be opened or read, 5 a write that failed, 7 done, and part of the feed was refused or cut off.
 
 use std::io::Write;
@@ -384,8 +384,9 @@ fn pack(messages: &[Vec<u8>]) -> Vec<u8> {
 
 /// Ok with the status of a run whose work is done, else the status that ends it.
 fn replay(words: &[String]) -> Result<u8, u8> {
-    let [command, name] = words else { return Err(2) };
-    if command != "replay" {
+    // The site's values are constants above: those of examples/site-a.toml.
+    let [command, option, _site, name] = words else { return Err(2) };
+    if command != "replay" || option != "--site" {
         return Err(2);
     }
     let mut feed = std::fs::read(name).map_err(|_| 4)?;

@@ -2,7 +2,7 @@
 use Rattle.std.specs.Prelude.{ℕ, ◌+◌, ◌-◌, ◌*◌, ◌/◌, ◌%◌, ◌^◌, ◌<◌, ◌≤◌, ◌==◌, nat_lt, List, [], ◌∷◌, ◌++◌, length, map, take, Option, Some, None, if◌then◌else◌}
 use Rattle.std.specs.List.{list_any, sum_by}
 use Rattle.asterix_fields.specs.Numbers.{octets}
-use Rattle.cat062_read.specs.declared.track.TheConstants.{TICKS_PER_DAY}
+use Rattle.track_motion.specs.declared.track.TheConstants.{TICKS_PER_DAY}
 use Rattle.cat004_write.specs.declared.event.Net.{Net}
 use Rattle.cat004_write.specs.declared.event.Net.TheVariants.{Stca, Msaw, Apw, Apm}
 use Rattle.cat004_write.specs.declared.event.Status.{Status}

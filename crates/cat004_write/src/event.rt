@@ -1,5 +1,5 @@
 //! What happened to an alert in a cycle.
-use cat062_read::TrackKey;
+use track_motion::TrackKey;
 
 /// The ground nets, in the order in which their subjects stand.
 #[derive(Clone, Copy, Debug, PartialEq, Eq, PartialOrd, Ord)]

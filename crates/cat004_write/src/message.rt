@@ -6,7 +6,7 @@ ghost use Rattle.cat004_write.specs.Messages.{FitsOctets, HasPlace, about as abo
 use crate::buffer::Buffer;
 use crate::event::{Event, HitData, Net, Status, Subject};
 use asterix_fields::{put16, put24};
-use cat062_read::TICKS_PER_DAY;
+use track_motion::TICKS_PER_DAY;
 
 /// The most octets that a message is kept in.
 pub const MESSAGE_ROOM: usize = 64;

@@ -3,9 +3,9 @@ ghost use Rattle.std.specs.Prelude.{IfSome, pos, ◌≤ℤ◌};
 ghost use Rattle.cat004_write.specs.Messages.{FitsOctets};
 
 use super::*;
-use cat062_read::{TICKS_PER_DAY, TrackKey};
 use std::process::Abort;
 use std::test::Fail;
+use track_motion::{TICKS_PER_DAY, TrackKey};
 
 /// The source that sends: SAC 25, SIC 100.
 const SAC: u8 = 25;

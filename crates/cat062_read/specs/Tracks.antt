@@ -1,11 +1,12 @@
 -- The track that a record tells of (the contents are those of ASTERIX part 9; what is taken and what counts where it is absent is this project's profile).
-use Rattle.std.specs.Prelude.{◌≡◌, ◌%◌, ◌^◌, ◌≤◌, Bool, ◌&&◌, ◌||◌, Option, Some, None, is_some, unwrap_or, IfSome, pos, ◌+ℤ◌, if◌then◌else◌}
+use Rattle.std.specs.Prelude.{◌%◌, ◌≤◌, Bool, ◌&&◌, ◌||◌, Option, Some, None, is_some, unwrap_or, IfSome, pos, ◌+ℤ◌, if◌then◌else◌}
 use Rattle.std.proofs.Common.{ℤ, ◌-ℤ◌}
 use Rattle.std.specs.Option.{option_map}
 use Rattle.std.specs.Int.RustNames.{unsigned_abs}
+use Rattle.track_motion.specs.declared.track.TheConstants.{TICKS_PER_DAY}
+use Rattle.track_motion.specs.declared.track.Track.{Track}
+pub use Rattle.track_motion.specs.Tracks.{IsInPlane, IsLevelled}
 use Rattle.cat062_read.specs.declared.record.Raw062.{Raw062}
-use Rattle.cat062_read.specs.declared.track.TheConstants.{TICKS_PER_DAY}
-use Rattle.cat062_read.specs.declared.track.Track.{Track}
 
 -- it says whose it is, which track and when, and where, or that it is the track's last message
 abbrev pub is_usable : Raw062 → Bool
@@ -47,24 +48,10 @@ track_from raw qnh = record {
 abbrev pub track_of : Raw062 → ℤ → Option Track
 track_of raw qnh = if is_usable raw then Some (track_from raw qnh) else None
 
--- a position within the 24 bits of item 100
-abbrev pub IsInPlane : ℤ → ℤ → Type 0
-IsInPlane x y = (unsigned_abs x ≤ 2 ^ 23) × (unsigned_abs y ≤ 2 ^ 23)
-
--- the position of a record, where it has one, is within those bits
+-- the position of a record, where it has one, is in the plane
 abbrev pub IsPlaced : Raw062 → Type 0
 IsPlaced raw = IfSome raw.xy (λ xy. IsInPlane xy.0 xy.1)
 
 -- a site's QNH correction is within 200 of 0
 abbrev pub IsQnh : ℤ → Type 0
 IsQnh qnh = unsigned_abs qnh ≤ 200
-
--- a level or an altitude is within 40,000 of 0
-abbrev pub IsHeight : ℤ → Type 0
-IsHeight z = unsigned_abs z ≤ 40000
-
--- the level and the altitude of a track are such, and the one is there exactly where the other is
-pub record IsLevelled (track : Track) : Type 0 where
-  pub level : IfSome track.level IsHeight
-  pub altitude : IfSome track.altitude IsHeight
-  pub both : is_some track.level ≡ is_some track.altitude

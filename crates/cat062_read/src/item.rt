@@ -2,7 +2,7 @@
 ghost use Rattle.std.specs.Prelude.{◌≡◌, ◌<◌, ◌^◌, IfSome, slice_index};
 ghost use Rattle.asterix_fields.specs.Numbers.{twos_complement};
 ghost use Rattle.cat062_read.specs.Contents.{acceleration, barometric, code, is_ended, is_simulated, is_tentative, number, position, signed, source, speed, time, wgs};
-ghost use Rattle.cat062_read.specs.Tracks.{IsInPlane};
+ghost use Rattle.track_motion.specs.Tracks.{IsInPlane};
 
 use asterix_fields::{be16, be24, signed16, signed24, signed32};
 

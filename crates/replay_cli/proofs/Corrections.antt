@@ -2,7 +2,7 @@
 use Rattle.std.proofs.Common.{◌≡◌, ℤ, ◌+ℤ◌, ◌<ℤ◌, Bool, true, false, List, [], ◌∷◌, refl, ap}
 use Rattle.std.specs.List.{AllByRecursion}
 use Rattle.cat062_read.specs.declared.record.Raw062.{Raw062}
-use Rattle.cat062_read.specs.declared.track.TrackKey.{TrackKey}
+use Rattle.track_motion.specs.declared.track.TrackKey.{TrackKey}
 use Rattle.cat062_read.specs.Tracks.{is_usable, track_from}
 use Rattle.replay_cli.specs.declared.table.Row.{Row}
 use Rattle.replay_cli.specs.Supported.{IsSupported, keys_of}

@@ -4,21 +4,21 @@ use Rattle.std.specs.Int.{int_max}
 use Rattle.std.specs.Prelude.{int_le}
 use Rattle.std.specs.Int.RustNames.{unsigned_abs}
 use Rattle.std.proofs.lemmas.Int.{ints, int_max_is, to_z-of_z, fits_signed_from_abs}
-use Rattle.replay_cli.specs.declared.site.Site.{Site}
-use Rattle.cat062_read.specs.declared.track.Track.{Track}
-use Rattle.cat062_read.specs.Tracks.{IsInPlane, IsLevelled}
-use Rattle.replay_cli.specs.Rows.{IsSite, IsRow}
+use Rattle.site_params.specs.declared.site.Site.{Site}
+use Rattle.track_motion.specs.declared.track.Track.{Track}
+use Rattle.track_motion.specs.Tracks.{IsInPlane, IsLevelled}
+use Rattle.replay_cli.specs.Rows.{IsTimed, IsRow}
 use Rattle.replay_cli.specs.Stamps.{day, half_day}
 use Rattle.replay_cli.specs.Supported.{IsCycle}
 use Rattle.replay_cli.proofs.Signed.{as_is, sum_is}
 
-pub cycle_of : (site : Site) → IsSite site → IsCycle site.start site.period
+pub cycle_of : (site : Site) → IsTimed site → IsCycle site.start site.period
 cycle_of site of =
     let long = of.period_low in
     record { low = of.start_low; high = of.start_high; some = omega (arith, ints); short = of.period_high }
 
 -- a correction in 32 bits
-pub correction_is : (site : Site) → IsSite site → to_z w32 (of_z w32 site.qnh) ≡ site.qnh
+pub correction_is : (site : Site) → IsTimed site → to_z w32 (of_z w32 site.qnh) ≡ site.qnh
 correction_is site of =
     let small = of.qnh in
     to_z-of_z w32 site.qnh (fits_signed_from_abs w32 site.qnh (omega arith))
@@ -89,7 +89,7 @@ long_ago present at begun near = omega (arith, ints)
 from_zero : (start present : ℤ) → pos 0 ≤ℤ start → start ≤ℤ present → pos 0 ≤ℤ present
 from_zero start present low begun = omega (arith, ints)
 
-pub row_of : (site : Site) (track : Track) (present at : ℤ) → IsSite site → site.start ≤ℤ present → (present -ℤ half_day) ≤ℤ at → at <ℤ (site.start +ℤ site.period) →
+pub row_of : (site : Site) (track : Track) (present at : ℤ) → IsTimed site → site.start ≤ℤ present → (present -ℤ half_day) ≤ℤ at → at <ℤ (site.start +ℤ site.period) →
     IsInPlane track.x track.y → IsLevelled track → IsRow site (record { track = track; at = at })
 row_of site track present at of begun near early place level = record {
   long_ago = long_ago present at (from_zero site.start present of.start_low begun) near;

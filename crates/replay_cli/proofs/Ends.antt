@@ -1,148 +1,349 @@
--- What the top call says, from how the run ended.
-use Rattle.std.proofs.Common.{◌≡◌, ◌⊎◌, ◌↔◌, inl, inr, refl, ℕ, true, false, List, length, Option, None, Some, IfSome, IsSome, IsSomeAnd, Result, Ok, Err, sym, rules, cond, Bool}
+-- What the top call says, from how the run ended and from what was written of it.
+use Rattle.std.proofs.Common.{◌≡◌, ◌≢◌, ◌⊎◌, ◌∙◌, inl, inr, refl, sym, ap, ℕ, Bool, true, false, List, [], ◌∷◌, length, Option, None, Some, Result, Ok, Err, Contains, rules, arith}
 use Rattle.std.proofs.Math.Seq.{take-length}
 use Rattle.std.proofs.lemmas.List.{append-nil}
 use Rattle.std.specs.Io.KnownBytes.{Appends}
-use Rattle.outside_io.specs.Bytes.{AppendsPrefix}
+use Rattle.outside_io.specs.Bytes.{AppendsPrefix, AppendsWhole}
 use Rattle.outside_io.specs.Faults.{Rose}
-use Rattle.outside_io.specs.Names.{Lacks}
-use Rattle.replay_cli.specs.declared.top.Done.{Done}
-use Rattle.replay_cli.specs.declared.top.Done.TheVariants.{Intact, Damaged}
-use Rattle.replay_cli.specs.declared.top.Stop as stop
-use Rattle.replay_cli.specs.declared.top.Stop.TheVariants as stops
-use Rattle.replay_cli.specs.declared.site.TheConstants.{SITE}
-use Rattle.replay_cli.specs.Content.{feed_is_intact}
-use Rattle.replay_cli.specs.Outcomes.{Ran, Ends, IsDone, done_of, status_of}
+use Rattle.site_params.specs.declared.fault.SiteFault.{SiteFault}
+use Rattle.site_params.specs.declared.site.Site.{Site}
+use Rattle.replay_cli.specs.Content.{content, feed_is_intact}
+use Rattle.replay_cli.specs.Counts.{report_of}
+use Rattle.replay_cli.specs.Ends.{Ran, Ends, Finishes, WritesReport, Misses, Completes, Breaks, RefusesSite, IsNotBuilt, IsAsked, StopsBy, status_done, status_of}
+use Rattle.replay_cli.specs.FaultTexts.{site_text, text_of_fault, write_failed_text}
+use Rattle.replay_cli.specs.Found.{Found, OtherWords, Untold, Lacking, Refused, Several, Given, IfGiven, IsLacking}
+use Rattle.replay_cli.specs.Outcomes.{IsDone, IsDue, IsReport, IsRefusal, IsUnread, Judges, JudgesFeed, Reports, Serves, Sunk, Takes}
 use Rattle.replay_cli.specs.Reference.{reference, FeedIsSupported}
-use Rattle.replay_cli.specs.Run.{Judges, Serves}
+use Rattle.replay_cli.specs.ReportText.{text_of}
+use Rattle.replay_cli.specs.Stops.{stop_status}
+use Rattle.replay_cli.specs.Works.{IsWork}
+use Rattle.replay_cli.specs.declared.texts.FaultText.{FaultText}
+use Rattle.replay_cli.specs.declared.texts.FaultText.TheVariants as texts
+use Rattle.replay_cli.specs.declared.work.Work.{Work}
 
 abbrev Ending : Type 0
-Ending = Result Done stop.Stop
+Ending = Result Work FaultText
 
-some_weaker : {X : Type 0} (o : Option X) (P Q : X → Type 0) → ((x : X) → P x → Q x) → IfSome o P → IfSome o Q
-some_weaker None P Q weaker one = one
-some_weaker (Some x) P Q weaker one = weaker x one
+-- ---- bytes that a sink took
 
-some_always : {X : Type 0} (o : Option X) (P : X → Type 0) → ((x : X) → P x) → IfSome o P
-some_always None P always = search rules
-some_always (Some x) P always = always x
-
-whole_is_prefix : (old new : Option (List ℕ)) (bytes : List ℕ) → Appends old new bytes → AppendsPrefix old new bytes
+pub whole_is_prefix : (old new : Option (List ℕ)) (bytes : List ℕ) → Appends old new bytes → AppendsPrefix old new bytes
 whole_is_prefix old new bytes all = (length bytes, rw take-length all)
 
-nothing_is_prefix : (old new : Option (List ℕ)) (bytes : List ℕ) → new ≡ old → AppendsPrefix old new bytes
+pub nothing_is_prefix : (old new : Option (List ℕ)) (bytes : List ℕ) → new ≡ old → AppendsPrefix old new bytes
 nothing_is_prefix None new bytes same = (0, tt)
 nothing_is_prefix (Some xs) new bytes same = (0, rw same (sym (append-nil xs)))
 
--- no other status comes
-pub statuses_of : (e : Ending) → (status_of e ≡ 0) ⊎ (status_of e ≡ 2) ⊎ (status_of e ≡ 3) ⊎ (status_of e ≡ 4) ⊎ (status_of e ≡ 5) ⊎ (status_of e ≡ 6) ⊎ (status_of e ≡ 7)
-statuses_of (Ok Intact) = search rules
-statuses_of (Ok Damaged) = search rules
-statuses_of (Err stops.Usage) = search rules
-statuses_of (Err stops.Unsupported) = search rules
-statuses_of (Err stops.Unread) = search rules
-statuses_of (Err stops.Unwritten) = search rules
-statuses_of (Err stops.NoMemory) = search rules
+pub front_of : {E : Type 0} (old new : Option (List ℕ)) (result : Result (Unit {0}) E) (bytes : List ℕ) → AppendsWhole old new result bytes → AppendsPrefix old new bytes
+front_of old new (Ok done) bytes all = whole_is_prefix old new bytes all
+front_of old new (Err failed) bytes front = front
+
+-- ---- statuses
+
+done_statuses : (b : Bool) → IsDone (status_done b)
+done_statuses true = inl refl
+done_statuses false = inr refl
+
+-- the status is that of the ending, but where the report of what was done can't be written
+pub kept_or_missed : (e : Ending) (n : ℕ) (report : Sunk) → Finishes e n report → (n ≡ status_of e) ⊎ ((n ≡ 5) × IsDone (status_of e))
+kept_or_missed (Err stopped) n report finishes = inl finishes.0
+kept_or_missed (Ok work) n report (inl tells) = inl tells.status
+kept_or_missed (Ok work) n report (inr misses) = inr (misses.status, done_statuses work.is_intact)
+
+stop_statuses : (e : FaultText) → (stop_status e ≡ 2) ⊎ (stop_status e ≡ 3) ⊎ (stop_status e ≡ 4) ⊎ (stop_status e ≡ 5) ⊎ (stop_status e ≡ 6)
+stop_statuses texts.Usage = search rules
+stop_statuses (texts.Site fault) = search rules
+stop_statuses texts.NotBuilt = search rules
+stop_statuses (texts.CannotOpen name) = search rules
+stop_statuses (texts.ReadFailed name) = search rules
+stop_statuses texts.WriteFailed = search rules
+stop_statuses texts.NoMemory = search rules
+
+pub other_than : (k : ℕ) (e : Ending) (n : ℕ) (report : Sunk) → k ≢ 0 → k ≢ 7 → Finishes e n report → n ≢ k → status_of e ≢ k
+other_than k e n report not_intact not_damaged finishes other is = elim (kept_or_missed e n report finishes) [
+  | inl same ↦ other (same ∙ is)
+  | inr missed ↦ elim missed.1 [ inl zero ↦ not_intact (sym is ∙ zero) | inr seven ↦ not_damaged (sym is ∙ seven) ]
+]
+
+-- where nothing was to be written, the work wasn't done
+pub not_done : (k : ℕ) (e : Ending) (n : ℕ) (report : Sunk) → IsDone k → Finishes e n report → n ≢ 0 → n ≢ 5 → n ≢ 7 → status_of e ≢ k
+not_done k e n report done finishes not_intact not_cut not_damaged is = elim (kept_or_missed e n report finishes) [
+  | inl same ↦ elim done [ inl zero ↦ not_intact (same ∙ is ∙ zero) | inr seven ↦ not_damaged (same ∙ is ∙ seven) ]
+  | inr missed ↦ not_cut missed.0
+]
+
+pub statuses_of : (e : Ending) (n : ℕ) (report : Sunk) → Finishes e n report → (n ≡ 0) ⊎ (n ≡ 2) ⊎ (n ≡ 3) ⊎ (n ≡ 4) ⊎ (n ≡ 5) ⊎ (n ≡ 6) ⊎ (n ≡ 7)
+statuses_of (Ok work) n report (inl tells) = elim (done_statuses work.is_intact) [ inl zero ↦ (let is : n ≡ 0 = tells.status ∙ zero in search rules) | inr seven ↦ (let is : n ≡ 7 = tells.status ∙ seven in search rules) ]
+statuses_of (Ok work) n report (inr misses) = (let is : n ≡ 5 = misses.status in search rules)
+statuses_of (Err stopped) n report finishes = rw finishes.0 (let one = stop_statuses stopped in search rules)
+
+-- ---- what was found judges the status
+
+judge_feed : (site : Site) (feed : List ℕ) (b : Bool) (n : ℕ) → FeedIsSupported site feed → b ≡ feed_is_intact feed → n ≡ status_done b → JudgesFeed site feed n
+judge_feed site feed true n supported intact is = record { words = λ e. cc; refused = λ e. absurd (cc); intact = λ e. (supported, sym intact); damaged = λ e. absurd (cc); cut_off = λ e. supported }
+judge_feed site feed false n supported intact is = record { words = λ e. cc; refused = λ e. absurd (cc); intact = λ e. absurd (cc); damaged = λ e. (supported, sym intact); cut_off = λ e. supported }
+
+judge_done : (f : Found) (out : Sunk) (work : Work) (n : ℕ) → Completes f out work → n ≡ status_done work.is_intact → Judges f n
+judge_done OtherWords out work n completes is = absurd completes
+judge_done Untold out work n completes is = λ two. elim (done_statuses work.is_intact) [ inl zero ↦ absurd (cc) | inr seven ↦ absurd (cc) ]
+judge_done (Lacking name) out work n completes is = absurd completes
+judge_done (Refused fault) out work n completes is = absurd completes
+judge_done Several out work n completes is = absurd completes
+judge_done (Given site feed) out work n completes is = judge_feed site feed work.is_intact n completes.0.supported completes.0.intact is
+
+judge_missed : (f : Found) (out : Sunk) (work : Work) → Completes f out work → Judges f 5
+judge_missed OtherWords out work completes = absurd completes
+judge_missed Untold out work completes = λ two. cc
+judge_missed (Lacking name) out work completes = absurd completes
+judge_missed (Refused fault) out work completes = absurd completes
+judge_missed Several out work completes = absurd completes
+judge_missed (Given site feed) out work completes =
+    record { words = λ e. cc; refused = λ e. absurd (cc); intact = λ e. absurd (cc); damaged = λ e. absurd (cc); cut_off = λ e. completes.0.supported }
+
+judge_usage : (f : Found) → f ≡ OtherWords → Judges f 2
+judge_usage f is = rw is (inl refl)
+
+judge_site : (f : Found) (fault : SiteFault) → RefusesSite f fault → Judges f 3
+judge_site OtherWords fault refuses = absurd refuses
+judge_site Untold fault refuses = λ two. cc
+judge_site (Lacking name) fault refuses = absurd refuses
+judge_site (Refused first) fault refuses = inl refl
+judge_site Several fault refuses = absurd refuses
+judge_site (Given site feed) fault refuses = absurd refuses
+
+judge_not_built : (f : Found) → IsNotBuilt f → Judges f 3
+judge_not_built OtherWords not_built = absurd not_built
+judge_not_built Untold not_built = λ two. cc
+judge_not_built (Lacking name) not_built = absurd not_built
+judge_not_built (Refused first) not_built = absurd not_built
+judge_not_built Several not_built = inl refl
+judge_not_built (Given site feed) not_built =
+    record { words = λ e. cc; refused = λ e. not_built; intact = λ e. absurd (cc); damaged = λ e. absurd (cc); cut_off = λ e. absurd (cc) }
+
+judge_unread : (f : Found) → IsAsked f → Judges f 4
+judge_unread OtherWords asked = absurd asked
+judge_unread Untold asked = λ two. cc
+judge_unread (Lacking name) asked = inl refl
+judge_unread (Refused first) asked = inr (inl refl)
+judge_unread Several asked = inr (inl refl)
+judge_unread (Given site feed) asked =
+    record { words = λ e. cc; refused = λ e. absurd (cc); intact = λ e. absurd (cc); damaged = λ e. absurd (cc); cut_off = λ e. absurd (cc) }
+
+judge_broken : (f : Found) (out : Sunk) → Breaks f out → Judges f 5
+judge_broken OtherWords out breaks = absurd breaks
+judge_broken Untold out breaks = λ two. cc
+judge_broken (Lacking name) out breaks = absurd breaks
+judge_broken (Refused first) out breaks = absurd breaks
+judge_broken Several out breaks = absurd breaks
+judge_broken (Given site feed) out breaks =
+    record { words = λ e. cc; refused = λ e. absurd (cc); intact = λ e. absurd (cc); damaged = λ e. absurd (cc); cut_off = λ e. breaks.0 }
+
+judge_memory : (f : Found) → Judges f 6
+judge_memory OtherWords = inr refl
+judge_memory Untold = λ two. cc
+judge_memory (Lacking name) = inr refl
+judge_memory (Refused first) = inr (inr refl)
+judge_memory Several = inr (inr refl)
+judge_memory (Given site feed) =
+    record { words = λ e. cc; refused = λ e. absurd (cc); intact = λ e. absurd (cc); damaged = λ e. absurd (cc); cut_off = λ e. absurd (cc) }
+
+judged_by : (r : Ran) (e : FaultText) → StopsBy e r → Judges r.found (stop_status e)
+judged_by r texts.Usage stops = judge_usage r.found stops
+judged_by r (texts.Site fault) stops = judge_site r.found fault stops
+judged_by r texts.NotBuilt stops = judge_not_built r.found stops
+judged_by r (texts.CannotOpen name) stops = judge_unread r.found stops.0
+judged_by r (texts.ReadFailed name) stops = judge_unread r.found stops.0
+judged_by r texts.WriteFailed stops = judge_broken r.found r.out stops.1
+judged_by r texts.NoMemory stops = judge_memory r.found
+
+pub judged_of : (r : Ran) (e : Ending) (n : ℕ) (report : Sunk) → Ends r e → Finishes e n report → Judges r.found n
+judged_of r (Ok work) n report ends (inl tells) = judge_done r.found r.out work n ends tells.status
+judged_of r (Ok work) n report ends (inr misses) = rw misses.status (judge_missed r.found r.out work ends)
+judged_of r (Err stopped) n report ends finishes = rw finishes.0 (judged_by r stopped ends)
 
 -- ---- the headline
 
-abbrev Writes : Ran → ℕ → List ℕ → Type 0
-Writes r status feed = Serves SITE status r.taken.before r.taken.after feed
+serve_done : (f : Found) (out : Sunk) (work : Work) (n : ℕ) → Completes f out work → IfGiven f (Serves n out)
+serve_done OtherWords out work n completes = tt
+serve_done Untold out work n completes = tt
+serve_done (Lacking name) out work n completes = tt
+serve_done (Refused fault) out work n completes = tt
+serve_done Several out work n completes = tt
+serve_done (Given site feed) out work n completes = λ supported. record { prefix = whole_is_prefix out.before out.after (reference site feed) completes.1; done = λ d. completes.1; unbroken = λ e kept. completes.1 }
 
-done_writes : (done : Done) (status : ℕ) (r : Ran) → IsDone done r → IfSome r.feed (Writes r status)
-done_writes done status r is =
-    some_weaker r.feed
-    (λ feed. FeedIsSupported SITE feed × (done ≡ done_of feed) × Appends r.taken.before r.taken.after (reference SITE feed))
-    (Writes r status)
-    (λ feed facts supported. (whole_is_prefix r.taken.before r.taken.after (reference SITE feed) facts.2, λ finished. facts.2))
-    is.1
+serve_unused : (f : Found) (out : Sunk) (n : ℕ) → (IsDone n → ⊥) → n ≢ 5 → out.after ≡ out.before → IfGiven f (Serves n out)
+serve_unused OtherWords out n other uncut same = tt
+serve_unused Untold out n other uncut same = tt
+serve_unused (Lacking name) out n other uncut same = tt
+serve_unused (Refused fault) out n other uncut same = tt
+serve_unused Several out n other uncut same = tt
+serve_unused (Given site feed) out n other uncut same = λ supported. record { prefix = nothing_is_prefix out.before out.after (reference site feed) same; done = λ d. absurd (other d); unbroken = λ e kept. absurd (uncut e) }
 
--- nothing was written, and the work wasn't done
-unused_writes : (status : ℕ) (r : Ran) → (status ≡ 0 → ⊥) → (status ≡ 7 → ⊥) → r.taken.after ≡ r.taken.before → IfSome r.feed (Writes r status)
-unused_writes status r not_intact not_damaged same =
-    some_always r.feed (Writes r status)
-    (λ feed supported. (nothing_is_prefix r.taken.before r.taken.after (reference SITE feed) same, λ finished. elim finished [ inl zero ↦ absurd (not_intact zero) | inr seven ↦ absurd (not_damaged seven) ]))
+serve_broken : (f : Found) (out : Sunk) → Rose out.faults_before out.faults_after → Breaks f out → IfGiven f (Serves 5 out)
+serve_broken OtherWords out rose breaks = tt
+serve_broken Untold out rose breaks = tt
+serve_broken (Lacking name) out rose breaks = tt
+serve_broken (Refused fault) out rose breaks = tt
+serve_broken Several out rose breaks = tt
+serve_broken (Given site feed) out rose breaks = λ supported. record { prefix = breaks.1; done = λ d. absurd (elim d [ inl zero ↦ cc | inr seven ↦ cc ]); unbroken = λ e kept. absurd (kept rose) }
 
-pub headline_of : (r : Ran) (e : Ending) → Ends r e → ((status_of e ≡ 0 → ⊥) → (status_of e ≡ 5 → ⊥) → (status_of e ≡ 7 → ⊥) → r.taken.after ≡ r.taken.before) → IfSome r.feed (Writes r (status_of e))
-headline_of r (Ok Intact) ends unused = done_writes Intact 0 r ends
-headline_of r (Ok Damaged) ends unused = done_writes Damaged 7 r ends
-headline_of r (Err stops.Usage) ends unused = unused_writes 2 r (λ e. cc) (λ e. cc) (unused (λ e. cc) (λ e. cc) (λ e. cc))
-headline_of r (Err stops.Unsupported) ends unused = unused_writes 3 r (λ e. cc) (λ e. cc) (unused (λ e. cc) (λ e. cc) (λ e. cc))
-headline_of r (Err stops.Unread) ends unused = unused_writes 4 r (λ e. cc) (λ e. cc) (unused (λ e. cc) (λ e. cc) (λ e. cc))
-headline_of r (Err stops.NoMemory) ends unused = unused_writes 6 r (λ e. cc) (λ e. cc) (unused (λ e. cc) (λ e. cc) (λ e. cc))
-headline_of r (Err stops.Unwritten) ends unused =
-    some_weaker r.feed
-    (λ feed. FeedIsSupported SITE feed × AppendsPrefix r.taken.before r.taken.after (reference SITE feed))
-    (Writes r 5)
-    (λ feed facts supported. (facts.1, λ finished. elim finished [ inl zero ↦ absurd (cc) | inr seven ↦ absurd (cc) ]))
-    ends.2
+-- a run that stopped before the alerts were written left `out` as it was
+abbrev Unused : Ran → ℕ → Type 0
+Unused r k = k ≢ 0 → k ≢ 5 → k ≢ 7 → r.out.after ≡ r.out.before
 
--- ---- what a status says of the feed
+served_by : (r : Ran) (e : FaultText) → StopsBy e r → Unused r (stop_status e) → IfGiven r.found (Serves (stop_status e) r.out)
+served_by r texts.Usage stops unused = serve_unused r.found r.out 2 (λ done. elim done [ inl zero ↦ cc | inr seven ↦ cc ]) (λ e. cc) (unused (λ e. cc) (λ e. cc) (λ e. cc))
+served_by r (texts.Site fault) stops unused = serve_unused r.found r.out 3 (λ done. elim done [ inl zero ↦ cc | inr seven ↦ cc ]) (λ e. cc) (unused (λ e. cc) (λ e. cc) (λ e. cc))
+served_by r texts.NotBuilt stops unused = serve_unused r.found r.out 3 (λ done. elim done [ inl zero ↦ cc | inr seven ↦ cc ]) (λ e. cc) (unused (λ e. cc) (λ e. cc) (λ e. cc))
+served_by r (texts.CannotOpen name) stops unused = serve_unused r.found r.out 4 (λ done. elim done [ inl zero ↦ cc | inr seven ↦ cc ]) (λ e. cc) (unused (λ e. cc) (λ e. cc) (λ e. cc))
+served_by r (texts.ReadFailed name) stops unused = serve_unused r.found r.out 4 (λ done. elim done [ inl zero ↦ cc | inr seven ↦ cc ]) (λ e. cc) (unused (λ e. cc) (λ e. cc) (λ e. cc))
+served_by r texts.WriteFailed stops unused = serve_broken r.found r.out stops.0 stops.1
+served_by r texts.NoMemory stops unused = serve_unused r.found r.out 6 (λ done. elim done [ inl zero ↦ cc | inr seven ↦ cc ]) (λ e. cc) (unused (λ e. cc) (λ e. cc) (λ e. cc))
 
-judged_by : (b : Bool) (done : Done) → done ≡ cond b Intact Damaged → (done ≡ Intact → b ≡ true) × (done ≡ Damaged → b ≡ false)
-judged_by true done is = (λ intact. refl, λ damaged. absurd (cc))
-judged_by false done is = (λ intact. absurd (cc), λ damaged. refl)
+pub headline_of : (r : Ran) (e : Ending) (n : ℕ) (report : Sunk) → Ends r e → Finishes e n report → Unused r (status_of e) → IfGiven r.found (Serves n r.out)
+headline_of r (Ok work) n report ends finishes unused = serve_done r.found r.out work n ends
+headline_of r (Err stopped) n report ends finishes unused = rw finishes.0 (served_by r stopped ends unused)
 
-intact_judges : (feed : List ℕ) → FeedIsSupported SITE feed → feed_is_intact feed ≡ true → Judges SITE 0 feed
-intact_judges feed supported is = record { refused = λ e. absurd (cc); intact = λ e. (supported, is); damaged = λ e. absurd (cc); cut_off = λ e. supported }
+-- ---- the causes of the statuses 4 and 5
 
-damaged_judges : (feed : List ℕ) → FeedIsSupported SITE feed → feed_is_intact feed ≡ false → Judges SITE 7 feed
-damaged_judges feed supported isnt = record { refused = λ e. absurd (cc); intact = λ e. absurd (cc); damaged = λ e. (supported, isnt); cut_off = λ e. supported }
+unread_by : (r : Ran) (e : FaultText) → StopsBy e r → stop_status e ≡ 4 → IsLacking r.found ⊎ Rose r.world.before r.world.after
+unread_by r texts.Usage stops is = absurd (cc)
+unread_by r (texts.Site fault) stops is = absurd (cc)
+unread_by r texts.NotBuilt stops is = absurd (cc)
+unread_by r (texts.CannotOpen name) stops is = stops.2
+unread_by r (texts.ReadFailed name) stops is = inr stops.2
+unread_by r texts.WriteFailed stops is = absurd (cc)
+unread_by r texts.NoMemory stops is = absurd (cc)
 
-other_judges : (status : ℕ) (feed : Option (List ℕ)) → (status ≡ 0 → ⊥) → (status ≡ 7 → ⊥) → (status ≡ 3 → ⊥) → (status ≡ 5 → ⊥) → IfSome feed (Judges SITE status)
-other_judges status feed not_intact not_damaged not_refused not_cut =
-    some_always feed (Judges SITE status) (λ feed. record { refused = λ e. absurd (not_refused e); intact = λ e. absurd (not_intact e); damaged = λ e. absurd (not_damaged e); cut_off = λ e. absurd (not_cut e) })
+done_isnt : (b : Bool) (k : ℕ) → k ≢ 0 → k ≢ 7 → status_done b ≢ k
+done_isnt true k not_intact not_damaged is = not_intact (sym is)
+done_isnt false k not_intact not_damaged is = not_damaged (sym is)
 
-pub support_of : (r : Ran) (e : Ending) → Ends r e → IfSome r.feed (Judges SITE (status_of e))
-support_of r (Ok Intact) ends =
-    some_weaker r.feed (λ feed. FeedIsSupported SITE feed × (Intact ≡ done_of feed) × Appends r.taken.before r.taken.after (reference SITE feed)) (Judges SITE 0)
-    (λ feed facts. intact_judges feed facts.0 ((judged_by (feed_is_intact feed) Intact facts.1).0 refl))
-    ends.1
-support_of r (Ok Damaged) ends =
-    some_weaker r.feed (λ feed. FeedIsSupported SITE feed × (Damaged ≡ done_of feed) × Appends r.taken.before r.taken.after (reference SITE feed)) (Judges SITE 7)
-    (λ feed facts. damaged_judges feed facts.0 ((judged_by (feed_is_intact feed) Damaged facts.1).1 refl))
-    ends.1
-support_of r (Err stops.Usage) ends = other_judges 2 r.feed (λ e. cc) (λ e. cc) (λ e. cc) (λ e. cc)
-support_of r (Err stops.Unread) ends = other_judges 4 r.feed (λ e. cc) (λ e. cc) (λ e. cc) (λ e. cc)
-support_of r (Err stops.NoMemory) ends = other_judges 6 r.feed (λ e. cc) (λ e. cc) (λ e. cc) (λ e. cc)
-support_of r (Err stops.Unsupported) ends =
-    some_weaker r.feed (λ feed. FeedIsSupported SITE feed → ⊥) (Judges SITE 3)
-    (λ feed not_supported. record { refused = λ e. not_supported; intact = λ e. absurd (cc); damaged = λ e. absurd (cc); cut_off = λ e. absurd (cc) })
-    ends.1
-support_of r (Err stops.Unwritten) ends =
-    some_weaker r.feed (λ feed. FeedIsSupported SITE feed × AppendsPrefix r.taken.before r.taken.after (reference SITE feed)) (Judges SITE 5)
-    (λ feed facts. record { refused = λ e. absurd (cc); intact = λ e. absurd (cc); damaged = λ e. absurd (cc); cut_off = λ e. facts.0 })
-    ends.2
+pub unread_of : (r : Ran) (e : Ending) (n : ℕ) (report : Sunk) → Ends r e → Finishes e n report → n ≡ 4 → IsLacking r.found ⊎ Rose r.world.before r.world.after
+unread_of r (Ok work) n report ends (inl tells) is = absurd (done_isnt work.is_intact 4 (λ e. cc) (λ e. cc) (sym tells.status ∙ is))
+unread_of r (Ok work) n report ends (inr misses) is = absurd (let missed = misses.status in cc)
+unread_of r (Err stopped) n report ends finishes is = unread_by r stopped ends (sym finishes.0 ∙ is)
 
--- ---- the cause of each status
+unwritten_by : (r : Ran) (e : FaultText) → StopsBy e r → stop_status e ≡ 5 → Rose r.out.faults_before r.out.faults_after
+unwritten_by r texts.Usage stops is = absurd (cc)
+unwritten_by r (texts.Site fault) stops is = absurd (cc)
+unwritten_by r texts.NotBuilt stops is = absurd (cc)
+unwritten_by r (texts.CannotOpen name) stops is = absurd (cc)
+unwritten_by r (texts.ReadFailed name) stops is = absurd (cc)
+unwritten_by r texts.WriteFailed stops is = stops.0
+unwritten_by r texts.NoMemory stops is = absurd (cc)
 
-some_name : (o : Option (List ℕ)) → IsSome o → o ≡ None → ⊥
-some_name (Some name) is none = cc
-some_name None is none = cc
+pub unwritten_of : (r : Ran) (e : Ending) (n : ℕ) (report : Sunk) → Ends r e → Finishes e n report → n ≡ 5 → Rose r.out.faults_before r.out.faults_after ⊎ Rose report.faults_before report.faults_after
+unwritten_of r (Ok work) n report ends (inl tells) is = absurd (done_isnt work.is_intact 5 (λ e. cc) (λ e. cc) (sym tells.status ∙ is))
+unwritten_of r (Ok work) n report ends (inr misses) is = inr misses.rose
+unwritten_of r (Err stopped) n report ends finishes is = inl (unwritten_by r stopped ends (sym finishes.0 ∙ is))
 
-pub usage_of : (r : Ran) (e : Ending) → Ends r e → (status_of e ≡ 2) ↔ (r.name ≡ None)
-usage_of r (Ok Intact) ends = (λ e. absurd (cc), λ none. absurd (some_name r.name ends.0 none))
-usage_of r (Ok Damaged) ends = (λ e. absurd (cc), λ none. absurd (some_name r.name ends.0 none))
-usage_of r (Err stops.Usage) ends = (λ e. ends, λ none. refl)
-usage_of r (Err stops.Unsupported) ends = (λ e. absurd (cc), λ none. absurd (some_name r.name ends.0 none))
-usage_of r (Err stops.Unread) ends = (λ e. absurd (cc), λ none. absurd (some_name r.name ends.0 none))
-usage_of r (Err stops.Unwritten) ends = (λ e. absurd (cc), λ none. absurd (some_name r.name ends.0 none))
-usage_of r (Err stops.NoMemory) ends = (λ e. absurd (cc), λ none. absurd (some_name r.name ends none))
+stop_isnt_done : (e : FaultText) (n : ℕ) → n ≡ stop_status e → IsDone n → ⊥
+stop_isnt_done e n is done = elim (stop_statuses e) [
+  | inl two ↦ elim done [ inl zero ↦ cc | inr seven ↦ cc ]
+  | inr (inl three) ↦ elim done [ inl zero ↦ cc | inr seven ↦ cc ]
+  | inr (inr (inl four)) ↦ elim done [ inl zero ↦ cc | inr seven ↦ cc ]
+  | inr (inr (inr (inl five))) ↦ elim done [ inl zero ↦ cc | inr seven ↦ cc ]
+  | inr (inr (inr (inr six))) ↦ elim done [ inl zero ↦ cc | inr seven ↦ cc ]
+]
 
-pub unread_of : (r : Ran) (e : Ending) → Ends r e → status_of e ≡ 4 → IsSomeAnd r.name (Lacks r.files) ⊎ Rose r.world.before r.world.after
-unread_of r (Ok Intact) ends is = absurd (cc)
-unread_of r (Ok Damaged) ends is = absurd (cc)
-unread_of r (Err stops.Usage) ends is = absurd (cc)
-unread_of r (Err stops.Unsupported) ends is = absurd (cc)
-unread_of r (Err stops.Unread) ends is = ends.1
-unread_of r (Err stops.Unwritten) ends is = absurd (cc)
-unread_of r (Err stops.NoMemory) ends is = absurd (cc)
+pub reported_of : (e : Ending) (n : ℕ) (report : Sunk) → Finishes e n report → IsDone n → report.faults_after ≡ report.faults_before
+reported_of (Ok work) n report (inl tells) done = tells.kept
+reported_of (Ok work) n report (inr misses) done = absurd (let missed = misses.status in elim done [ inl zero ↦ cc | inr seven ↦ cc ])
+reported_of (Err stopped) n report finishes done = absurd (stop_isnt_done stopped n finishes.0 done)
 
-pub unwritten_of : (r : Ran) (e : Ending) → Ends r e → status_of e ≡ 5 → Rose r.out.before r.out.after
-unwritten_of r (Ok Intact) ends is = absurd (cc)
-unwritten_of r (Ok Damaged) ends is = absurd (cc)
-unwritten_of r (Err stops.Usage) ends is = absurd (cc)
-unwritten_of r (Err stops.Unsupported) ends is = absurd (cc)
-unwritten_of r (Err stops.Unread) ends is = absurd (cc)
-unwritten_of r (Err stops.Unwritten) ends is = ends.1
-unwritten_of r (Err stops.NoMemory) ends is = absurd (cc)
+-- ---- what `report` took
+
+report_done : (f : Found) (out : Sunk) (work : Work) → Completes f out work → IsReport f work.report.items
+report_done OtherWords out work completes = absurd completes
+report_done Untold out work completes = completes
+report_done (Lacking name) out work completes = absurd completes
+report_done (Refused fault) out work completes = absurd completes
+report_done Several out work completes = absurd completes
+report_done (Given site feed) out work completes = completes.0.report
+
+some_report : (f : Found) (out : Sunk) → Breaks f out → (report : List ℕ) × IsReport f report
+some_report OtherWords out breaks = absurd breaks
+some_report Untold out breaks = breaks
+some_report (Lacking name) out breaks = absurd breaks
+some_report (Refused fault) out breaks = absurd breaks
+some_report Several out breaks = absurd breaks
+some_report (Given site feed) out breaks = (text_of (report_of site feed), refl)
+
+refusal_of_site : (f : Found) (fault : SiteFault) → RefusesSite f fault → IsRefusal f (site_text fault)
+refusal_of_site OtherWords fault refuses = absurd refuses
+refusal_of_site Untold fault refuses = inr (fault, refl)
+refusal_of_site (Lacking name) fault refuses = absurd refuses
+refusal_of_site (Refused first) fault refuses = ap site_text refuses
+refusal_of_site Several fault refuses = absurd refuses
+refusal_of_site (Given site feed) fault refuses = absurd refuses
+
+refusal_of_form : (f : Found) → IsNotBuilt f → IsRefusal f (text_of_fault texts.NotBuilt)
+refusal_of_form OtherWords not_built = absurd not_built
+refusal_of_form Untold not_built = inl refl
+refusal_of_form (Lacking name) not_built = absurd not_built
+refusal_of_form (Refused first) not_built = absurd not_built
+refusal_of_form Several not_built = refl
+refusal_of_form (Given site feed) not_built = refl
+
+not_done_at : (k : ℕ) → k ≢ 0 → k ≢ 7 → IsDone k → ⊥
+not_done_at k not_intact not_damaged done = elim done [ inl zero ↦ not_intact zero | inr seven ↦ not_damaged seven ]
+
+due_by : (r : Ran) (e : FaultText) → StopsBy e r → IsDue r.found r.names (stop_status e) (text_of_fault e)
+due_by r texts.Usage stops = record { done = λ d. absurd (not_done_at 2 (λ e. cc) (λ e. cc) d); usage = λ e. refl; refused = λ e. absurd (cc); unread = λ e. absurd (cc); unwritten = λ e. absurd (cc); memory = λ e. absurd (cc) }
+due_by r (texts.Site fault) stops = record { done = λ d. absurd (not_done_at 3 (λ e. cc) (λ e. cc) d); usage = λ e. absurd (cc); refused = λ e. refusal_of_site r.found fault stops; unread = λ e. absurd (cc); unwritten = λ e. absurd (cc); memory = λ e. absurd (cc) }
+due_by r texts.NotBuilt stops = record { done = λ d. absurd (not_done_at 3 (λ e. cc) (λ e. cc) d); usage = λ e. absurd (cc); refused = λ e. refusal_of_form r.found stops; unread = λ e. absurd (cc); unwritten = λ e. absurd (cc); memory = λ e. absurd (cc) }
+due_by r (texts.CannotOpen name) stops = record { done = λ d. absurd (not_done_at 4 (λ e. cc) (λ e. cc) d); usage = λ e. absurd (cc); refused = λ e. absurd (cc); unread = λ e. (name, stops.1, inl refl); unwritten = λ e. absurd (cc); memory = λ e. absurd (cc) }
+due_by r (texts.ReadFailed name) stops = record { done = λ d. absurd (not_done_at 4 (λ e. cc) (λ e. cc) d); usage = λ e. absurd (cc); refused = λ e. absurd (cc); unread = λ e. (name, stops.1, inr refl); unwritten = λ e. absurd (cc); memory = λ e. absurd (cc) }
+due_by r texts.WriteFailed stops = record { done = λ d. absurd (not_done_at 5 (λ e. cc) (λ e. cc) d); usage = λ e. absurd (cc); refused = λ e. absurd (cc); unread = λ e. absurd (cc); unwritten = λ e. refl; memory = λ e. absurd (cc) }
+due_by r texts.NoMemory stops = record { done = λ d. absurd (not_done_at 6 (λ e. cc) (λ e. cc) d); usage = λ e. absurd (cc); refused = λ e. absurd (cc); unread = λ e. absurd (cc); unwritten = λ e. absurd (cc); memory = λ e. refl }
+
+late_by : (r : Ran) (e : FaultText) (report : Sunk) → StopsBy e r → stop_status e ≡ 5 → (text : List ℕ) × IsReport r.found text × AppendsPrefix report.before report.before text
+late_by r texts.Usage report stops is = absurd (cc)
+late_by r (texts.Site fault) report stops is = absurd (cc)
+late_by r texts.NotBuilt report stops is = absurd (cc)
+late_by r (texts.CannotOpen name) report stops is = absurd (cc)
+late_by r (texts.ReadFailed name) report stops is = absurd (cc)
+late_by r texts.WriteFailed report stops is = (let some = some_report r.found r.out stops.1 in (some.0, some.1, nothing_is_prefix report.before report.before some.0 refl))
+late_by r texts.NoMemory report stops is = absurd (cc)
+
+abbrev Due : Ran → ℕ → List ℕ → Type 0
+Due r n text = IsDue r.found r.names n text
+
+done_due : (r : Ran) (n : ℕ) (text : List ℕ) → IsDone n → IsReport r.found text → Due r n text
+done_due r n text done is = record {
+  done = λ d. is;
+  usage = λ e. absurd (elim done [ inl zero ↦ cc | inr seven ↦ cc ]);
+  refused = λ e. absurd (elim done [ inl zero ↦ cc | inr seven ↦ cc ]);
+  unread = λ e. absurd (elim done [ inl zero ↦ cc | inr seven ↦ cc ]);
+  unwritten = λ e. absurd (elim done [ inl zero ↦ cc | inr seven ↦ cc ]);
+  memory = λ e. absurd (elim done [ inl zero ↦ cc | inr seven ↦ cc ]);
+}
+
+missed_due : (r : Ran) → Due r 5 write_failed_text
+missed_due r = record { done = λ d. absurd (not_done_at 5 (λ e. cc) (λ e. cc) d); usage = λ e. absurd (cc); refused = λ e. absurd (cc); unread = λ e. absurd (cc); unwritten = λ e. refl; memory = λ e. absurd (cc) }
+
+pub told_of : (r : Ran) (e : Ending) (n : ℕ) (report : Sunk) → Ends r e → Finishes e n report → Reports r.found r.names n report
+told_of r (Ok work) n report ends (inl tells) = record {
+  text = work.report.items;
+  due = done_due r n work.report.items (rw tells.status (done_statuses work.is_intact)) (report_done r.found r.out work ends);
+  middle = report.before;
+  alone = λ other. refl;
+  late = λ five. absurd (done_isnt work.is_intact 5 (λ e. cc) (λ e. cc) (sym tells.status ∙ five));
+  taken = record { prefix = whole_is_prefix report.before report.after work.report.items tells.taken; whole = λ unrisen. tells.taken };
+}
+told_of r (Ok work) n report ends (inr misses) = record {
+  text = write_failed_text;
+  due = rw misses.status (missed_due r);
+  middle = misses.middle;
+  alone = λ other. absurd (other misses.status);
+  late = λ five. (work.report.items, report_done r.found r.out work ends, misses.begun);
+  taken = misses.told;
+}
+told_of r (Err stopped) n report ends finishes = record {
+  text = text_of_fault stopped;
+  due = rw finishes.0 (due_by r stopped ends);
+  middle = report.before;
+  alone = λ other. refl;
+  late = λ five. late_by r stopped report ends (sym finishes.0 ∙ five);
+  taken = finishes.1;
+}

@@ -8,8 +8,8 @@ use Rattle.std.specs.Cmp.{nat_cmp_is}
 use Rattle.std.proofs.lemmas.Bool.{and_parts, eqb-true, eq-eqb}
 use Rattle.std.proofs.lemmas.Cmp.{ranked}
 use Rattle.std.proofs.lemmas.List.{map-append}
-use Rattle.cat062_read.specs.declared.track.Track.{Track}
-use Rattle.cat062_read.specs.declared.track.TrackKey.{TrackKey}
+use Rattle.track_motion.specs.declared.track.Track.{Track}
+use Rattle.track_motion.specs.declared.track.TrackKey.{TrackKey}
 use Rattle.replay_cli.specs.Cycle.{key_cmp}
 use Rattle.replay_cli.specs.Supported.{AreOthers, keys_of}
 use Rattle.replay_cli.proofs.Lists.{each_push}

@@ -5,7 +5,7 @@ use Rattle.std.proofs.lemmas.List.{map-append, take_more}
 use Rattle.cat004_write.specs.Messages.{message}
 use Rattle.cat004_write.specs.declared.event.Event.{Event}
 use Rattle.replay_cli.specs.declared.cycle.Hit.{Hit}
-use Rattle.replay_cli.specs.declared.site.Site.{Site}
+use Rattle.site_params.specs.declared.site.Site.{Site}
 use Rattle.replay_cli.specs.Cycle.{cycle_time, events, first_event}
 use Rattle.replay_cli.specs.Reference.{messages}
 use Rattle.replay_cli.proofs.Lists.{enumerated_more}

@@ -1,7 +1,7 @@
 -- Pairs that aren't in current proximity.
 use Rattle.std.proofs.Common.{◌≡◌, true, false, None, refl}
 use Rattle.replay_cli.specs.declared.motion.Motion.{Motion}
-use Rattle.replay_cli.specs.declared.site.Set.{Set}
+use Rattle.site_params.specs.declared.site.Set.{Set}
 use Rattle.replay_cli.specs.Relative.{relative}
 use Rattle.replay_cli.specs.Stca.{is_near, is_level, is_closing, now_v, stca_hit}
 

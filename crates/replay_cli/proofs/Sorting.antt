@@ -11,9 +11,9 @@ use Rattle.std.proofs.lemmas.Cmp.{nat_cmp_total, on_total, then_total}
 use Rattle.std.proofs.lemmas.List.Sorted.{Contains-permutation, IsPermutation-sym}
 use Rattle.std.proofs.lemmas.List.{get_or_default}
 use Rattle.std.proofs.lemmas.Map.Keys.{apart_from_distinct, IsDistinct-from_sorted, IsDistinct-IsPermutation}
-use Rattle.cat062_read.specs.declared.track.Track.{Track}
-use Rattle.cat062_read.specs.declared.track.TrackKey.{TrackKey}
-use Rattle.replay_cli.specs.declared.site.Site.{Site}
+use Rattle.track_motion.specs.declared.track.Track.{Track}
+use Rattle.track_motion.specs.declared.track.TrackKey.{TrackKey}
+use Rattle.site_params.specs.declared.site.Site.{Site}
 use Rattle.replay_cli.specs.Supported.{AreDistinct, AreOthers, IsSupported, keys_of}
 use Rattle.replay_cli.specs.Rows.{IsRow}
 use Rattle.replay_cli.specs.Stamps.{later, rows_from}

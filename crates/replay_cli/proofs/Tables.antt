@@ -5,8 +5,8 @@ use Rattle.std.proofs.lemmas.Int.{ints}
 use Rattle.std.specs.Int.{int_max}
 use Rattle.std.proofs.lemmas.List.{map-append}
 use Rattle.std.proofs.lemmas.List.Sums.{fold_push}
-use Rattle.cat062_read.specs.declared.track.Track.{Track}
-use Rattle.cat062_read.specs.declared.track.TrackKey.{TrackKey}
+use Rattle.track_motion.specs.declared.track.Track.{Track}
+use Rattle.track_motion.specs.declared.track.TrackKey.{TrackKey}
 use Rattle.replay_cli.specs.Supported.{AreDistinct, AreOthers, IsSupported, keys_of}
 use Rattle.replay_cli.proofs.Lists.{each_push}
 use Rattle.replay_cli.proofs.Cycles.{greater_from, greater_below}

@@ -1,20 +1,22 @@
 -- A cycle: the rows of its table, those that are eligible, the hits of all pairs, and the events (this project's profile).
-use Rattle.std.specs.Prelude.{ℕ, ◌%◌, ◌^◌, IfSome, Bool, false, ◌&&◌, not, List, [], ◌∷◌, ◌++◌, map, Option, Some, None, ℤ, ◌+ℤ◌, ◌-ℤ◌, ◌==◌, int_le, if◌then◌else◌}
-use Rattle.std.specs.List.{filter_map, fold, enumerate_from, list_any}
+use Rattle.std.specs.Prelude.{ℕ, ◌%◌, ◌^◌, IfSome, Bool, false, ◌&&◌, not, List, [], ◌∷◌, ◌++◌, map, get_or, Option, Some, None, ℤ, ◌+ℤ◌, ◌-ℤ◌, ◌==◌, int_le, if◌then◌else◌}
+use Rattle.std.specs.List.{filter_map, fold, enumerate_from, list_any, slice_get}
 use Rattle.std.specs.Option.{option_map, option_map_or}
 use Rattle.std.specs.declared.cmp.Ordering.{Ordering}
 use Rattle.std.specs.Ordering.{nat_cmp, ordering_then}
 use Rattle.std.specs.BTreeMap.{insert_entry}
-use Rattle.cat062_read.specs.declared.track.Track.{Track}
-use Rattle.cat062_read.specs.declared.track.TrackKey.{TrackKey}
+use Rattle.track_motion.specs.declared.track.Track.{Track}
+use Rattle.track_motion.specs.declared.track.TrackKey.{TrackKey}
 use Rattle.cat004_write.specs.declared.event.Net.TheVariants.{Stca}
 use Rattle.cat004_write.specs.declared.event.Status.TheVariants.{First}
 use Rattle.cat004_write.specs.declared.event.Event.{Event}
 use Rattle.cat004_write.specs.Messages.{FitsOctets}
 use Rattle.replay_cli.specs.declared.cycle.Hit.{Hit}
 use Rattle.replay_cli.specs.declared.cycle.Mover.{Mover}
-use Rattle.replay_cli.specs.declared.site.Site.{Site}
+use Rattle.site_params.specs.declared.site.Site.{Site}
 use Rattle.replay_cli.specs.declared.table.Row.{Row}
+use Rattle.site_params.specs.declared.site.Set.{Set}
+use Rattle.site_params.specs.declared.site.TheConstants.{STCA}
 use Rattle.replay_cli.specs.Motions.{motion_at}
 use Rattle.replay_cli.specs.Stca.{stca_hit}
 
@@ -38,6 +40,14 @@ table rows = fold (λ entries row. insert_entry key_cmp entries row.track.key ro
 abbrev pub cycle_time : Site → ℤ
 cycle_time site = site.start +ℤ site.period
 
+-- the parameter set of all rows so far: the first of the site's
+abbrev pub base_set : Site → Option Set
+base_set site = slice_get site.sets 0
+
+-- the row's set enables STCA
+abbrev pub is_enabled : Site → Bool
+is_enabled site = option_map_or (λ set. get_or set.enabled STCA false) (base_set site) false
+
 -- a code that the site leaves out of the nets
 abbrev pub is_left_out : Site → Option ℕ → Bool
 is_left_out site code = option_map_or (λ c. list_any (λ d. d == c) site.codes) code false
@@ -48,7 +58,7 @@ is_recent site row = not row.track.ended && int_le (cycle_time site -ℤ row.at)
 
 -- a row that the nets look at: its set enables the net, it isn't tentative and isn't simulated, and its code isn't left out
 abbrev pub is_eligible : Site → Track → Bool
-is_eligible site track = site.set.stca && not track.tentative && not track.simulated && not (is_left_out site track.code)
+is_eligible site track = is_enabled site && not track.tentative && not track.simulated && not (is_left_out site track.code)
 
 -- the eligible rows with a level, each with its motion at the cycle's time
 abbrev pub mover_of : Site → TrackKey × Row → Option Mover
@@ -61,16 +71,19 @@ abbrev pub movers : Site → List (TrackKey × Row) → List Mover
 movers site entries = filter_map (mover_of site) entries
 
 -- the hit of a pair, the one with the lower key first
-abbrev pub hit_of : Site → Mover → Mover → Option Hit
-hit_of site a b =
+abbrev pub hit_of : Set → Mover → Mover → Option Hit
+hit_of set a b =
     option_map
     (λ figures. record { subject = record { net = Stca; key = a.key; other = b.key; object = 0 }; figures = figures })
-    (stca_hit a.motion b.motion site.set)
+    (stca_hit a.motion b.motion set)
 
 -- the hits of all pairs, in the order of their first keys and then of their second
-abbrev pub hits : Site → List Mover → List Hit
-hits site [] = []
-hits site (a ∷ others) = filter_map (hit_of site a) others ++ hits site others
+abbrev pub hits : Set → List Mover → List Hit
+hits set [] = []
+hits set (a ∷ others) = filter_map (hit_of set a) others ++ hits set others
+
+abbrev pub hits_of : Site → List Mover → List Hit
+hits_of site movers = option_map_or (λ set. hits set movers) (base_set site) []
 
 -- a First event for each hit, with the alerts' numbers in order, modulo 65,536
 abbrev pub first_event : ℕ × Hit → Event

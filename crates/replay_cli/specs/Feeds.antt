@@ -1,37 +1,63 @@
 -- What was read of a source and of a name, where their bytes are told (this project's profile).
-use Rattle.std.specs.Prelude.{◌≡◌, ℕ, List, Option, Some, None, IfSome, ⊤}
+use Rattle.std.specs.Prelude.{◌≡◌, ℕ, ◌+◌, ◌-◌, ◌^◌, ◌≤◌, Bool, not, min, List, length, take, count_by, Option, Some, None, IfSome, ⊤, if◌then◌else◌}
 use Rattle.std.specs.List.{flat_map}
+use Rattle.std.specs.Io.KnownBytes.{Consumes}
 use Rattle.outside_io.specs.Names.{bytes_of}
 use Rattle.asterix_blocks.specs.declared.blocks.Block.{Block}
+use Rattle.asterix_blocks.specs.declared.blocks.End.{End}
 use Rattle.asterix_blocks.specs.Cutting.{Cuts}
 use Rattle.asterix_blocks.specs.Framing.{blocks}
 use Rattle.asterix_blocks.specs.Held.{Held}
 use Rattle.replay_cli.specs.declared.input.Gathered.{Gathered}
-use Rattle.replay_cli.specs.declared.input.Input as read
-use Rattle.replay_cli.specs.Content.{Content, content, records_of, refusals_of}
-use Rattle.replay_cli.specs.Run.{feed_of}
+use Rattle.replay_cli.specs.Content.{Content, content, is_of_category, records_of, refusals_of}
+use Rattle.replay_cli.specs.Run.{Files, feed_of}
 
--- these are the records of the blocks, and what is refused of them
-pub record Gathers (gathered : Gathered) (blocks : List Block) : Type 0 where
-  pub records : gathered.records.items ≡ flat_map records_of blocks
-  pub refused : gathered.refused.items ≡ flat_map refusals_of blocks
+-- a count as 64 bits tell it
+abbrev pub told_count : ℕ → ℕ
+told_count count = min count (2 ^ 64 - 1)
+
+-- a count after one more, where there is one
+abbrev pub with_one : ℕ → Bool → ℕ
+with_one count one = if one then told_count (count + 1) else count
+
+-- how many of the blocks pass a test
+abbrev pub told_blocks : (Block → Bool) → List Block → ℕ
+told_blocks test blocks = told_count (count_by test blocks)
+
+-- this is the content of the blocks
+pub record Gathers (gathered : Gathered) (given : List Block) : Type 0 where
+  pub blocks : gathered.blocks ≡ told_blocks is_of_category given
+  pub passed : gathered.passed ≡ told_blocks (λ block. not (is_of_category block)) given
+  pub records : gathered.records.items ≡ flat_map records_of given
+  pub refused : gathered.refused.items ≡ flat_map refusals_of given
 
 -- the blocks that are whole by now were taken, and their content was added
 abbrev pub AddsBlocks : Held → Held → Gathered → Gathered → Type 0
 AddsBlocks old new before after =
     (fed : List ℕ) (given : List Block) → Cuts old fed given → Gathers before given → Cuts new fed (blocks fed) × Gathers after (blocks fed)
 
--- this is the content
-pub record Reads (input : read.Input) (content : Content) : Type 0 where
-  pub records : input.records.items ≡ content.records
-  pub refused : input.refused.items ≡ content.refused
-  pub end : input.end ≡ content.end
+-- what was gathered is the content of a feed that ends so
+abbrev pub content_as : Gathered → End → Content
+content_as gathered end = record { blocks = gathered.blocks; passed = gathered.passed; records = gathered.records.items; refused = gathered.refused.items; end = end }
 
 -- this is the content of what the source has left
-abbrev pub ReadsWhole : Option (List ℕ) → read.Input → Type 0
-ReadsWhole left input = IfSome left (λ bytes. Reads input (content (feed_of bytes)))
+abbrev pub ReadsWhole : Option (List ℕ) → Content → Type 0
+ReadsWhole left input = IfSome left (λ bytes. input ≡ content (feed_of bytes))
+
+-- this is what the source has left, or as much of it as is read
+abbrev pub ReadsText : Option (List ℕ) → ℕ → List ℕ → Type 0
+ReadsText left most text = IfSome left (λ bytes. text ≡ take most bytes)
+
+-- at most so many bytes were taken of the source
+abbrev pub TakesAtMost : ℕ → Option (List ℕ) → Option (List ℕ) → Type 0
+TakesAtMost most old new = (taken : List ℕ) × Consumes old new taken × (length taken ≤ most)
 
 -- this is the content of the bytes under the name
-abbrev pub ReadsNamed : Option (List (List ℕ × List ℕ)) → List ℕ → read.Input → Type 0
+abbrev pub ReadsNamed : Option Files → List ℕ → Content → Type 0
 ReadsNamed None name input = ⊤
-ReadsNamed (Some files) name input = (bytes : List ℕ) × (bytes_of name files ≡ Some bytes) × Reads input (content (feed_of bytes))
+ReadsNamed (Some files) name input = (bytes : List ℕ) × (bytes_of name files ≡ Some bytes) × (input ≡ content (feed_of bytes))
+
+-- this is the text under the name, or as much of it as is read
+abbrev pub TextOf : Option Files → List ℕ → ℕ → List ℕ → Type 0
+TextOf None name most text = ⊤
+TextOf (Some files) name most text = (bytes : List ℕ) × (bytes_of name files ≡ Some bytes) × (text ≡ take most bytes)

@@ -1,8 +1,8 @@
 -- Where a track is at the ticks after a cycle's time, moving on as it did (this project's profile: exact in whole numbers).
 use Rattle.std.specs.Prelude.{ℕ, ◌^◌, ◌≤◌, Option, unsigned_abs, ℤ, pos, ◌+ℤ◌, ◌-ℤ◌, ◌*ℤ◌, ◌≤ℤ◌}
 use Rattle.std.specs.Option.{option_map, option_and_then}
-use Rattle.cat062_read.specs.declared.track.Track.{Track}
-use Rattle.cat062_read.specs.Tracks.{IsInPlane, IsLevelled}
+use Rattle.track_motion.specs.declared.track.Track.{Track}
+use Rattle.track_motion.specs.Tracks.{IsInPlane, IsLevelled}
 use Rattle.replay_cli.specs.declared.motion.Motion.{Motion}
 use Rattle.replay_cli.specs.declared.motion.TheConstants.{LENGTH_UNITS_PER_HALF_METRE, HEIGHT_UNITS_PER_25_FT, LONGEST_AGE}
 

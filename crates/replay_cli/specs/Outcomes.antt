@@ -1,79 +1,107 @@
--- How a run ended: what each way of ending says of what the run found and left (this project's profile).
-use Rattle.std.specs.Prelude.{◌≡◌, ◌⊎◌, ℕ, List, Option, None, IfSome, IsSome, IsSomeAnd, Result, MatchResult, Ok, Err, String, if◌then◌else◌}
-use Rattle.std.specs.declared.alloc.Global.{Global}
+-- What each exit status says of what the run found, and what the two sinks took (this project's profile).
+use Rattle.std.specs.Prelude.{◌≡◌, ◌≢◌, ◌⊎◌, ℕ, true, false, List, Option, Contains}
 use Rattle.std.specs.Io.KnownBytes.{Appends}
 use Rattle.outside_io.specs.Bytes.{AppendsPrefix}
 use Rattle.outside_io.specs.Faults.{Rose}
-use Rattle.outside_io.specs.Names.{Lacks}
+use Rattle.site_params.specs.declared.fault.SiteFault.{SiteFault}
+use Rattle.site_params.specs.declared.site.Site.{Site}
 use Rattle.replay_cli.specs.Content.{feed_is_intact}
+use Rattle.replay_cli.specs.FaultTexts.{cannot_open, not_built_text, out_of_memory_text, read_failed, site_text, usage_text, write_failed_text}
+use Rattle.replay_cli.specs.Found.{Found, OtherWords, Untold, Lacking, Refused, Several, Given}
 use Rattle.replay_cli.specs.Reference.{reference, FeedIsSupported}
-use Rattle.replay_cli.specs.Run.{feed_name, told_feed}
-use Rattle.replay_cli.specs.declared.input.Unread as unread
-use Rattle.replay_cli.specs.declared.input.Unread.TheVariants as unreads
-use Rattle.replay_cli.specs.declared.top.Done.{Done}
-use Rattle.replay_cli.specs.declared.top.Done.TheVariants.{Intact, Damaged}
-use Rattle.replay_cli.specs.declared.top.Stop as stop
-use Rattle.replay_cli.specs.declared.top.Stop.TheVariants as stops
-use Rattle.replay_cli.specs.declared.site.TheConstants.{SITE}
+use Rattle.replay_cli.specs.Counts.{report_of}
+use Rattle.replay_cli.specs.ReportText.{text_of}
+use Rattle.replay_cli.specs.declared.report.counts.Report.{Report}
 
--- a value before the run and after it
-pub record Change (A : Type 0) : Type 0 where
-  pub before : A
-  pub after : A
+-- the work was done: nothing of the feed is refused and it ends behind a whole block, or not
+abbrev pub IsDone : ℕ → Type 0
+IsDone status = (status ≡ 0) ⊎ (status ≡ 7)
 
-abbrev pub change : {A : Type 0} → A → A → Change A
-change before after = record { before = before; after = after }
+-- what is to be refused is refused, unless a read or want of memory came before
+abbrev pub IsRefused : ℕ → Type 0
+IsRefused status = (status ≡ 3) ⊎ (status ≡ 4) ⊎ (status ≡ 6)
 
--- what a run found and left: the world's names, the name and the feed that the words give, the counts of
--- faults of the world and of the sink, and the bytes that the sink took
-pub record Ran : Type 0 where
-  pub files : Option (List (List ℕ × List ℕ))
-  pub name : Option (List ℕ)
-  pub feed : Option (List ℕ)
-  pub world : Change ℕ
-  pub out : Change ℕ
-  pub taken : Change (Option (List ℕ))
+-- what a status says of a feed under a site: at 3 it isn't supported; at 0, 5 and 7 it is; at 0 it is intact, and at 7 it isn't
+pub record JudgesFeed (site : Site) (feed : List ℕ) (status : ℕ) : Type 0 where
+  pub words : status ≢ 2
+  pub refused : status ≡ 3 → FeedIsSupported site feed → ⊥
+  pub intact : status ≡ 0 → FeedIsSupported site feed × (feed_is_intact feed ≡ true)
+  pub damaged : status ≡ 7 → FeedIsSupported site feed × (feed_is_intact feed ≡ false)
+  pub cut_off : status ≡ 5 → FeedIsSupported site feed
 
-abbrev pub ran : Option (List (List ℕ × List ℕ)) → List (String Global) → Change ℕ → Change ℕ → Change (Option (List ℕ)) → Ran
-ran files words world out taken = record { files = files; name = feed_name words; feed = told_feed files words; world = world; out = out; taken = taken }
+-- which statuses may come for what was found
+abbrev pub Judges : Found → ℕ → Type 0
+Judges OtherWords status = (status ≡ 2) ⊎ (status ≡ 6)
+Judges Untold status = status ≢ 2
+Judges (Lacking name) status = (status ≡ 4) ⊎ (status ≡ 6)
+Judges (Refused fault) status = IsRefused status
+Judges Several status = IsRefused status
+Judges (Given site feed) status = JudgesFeed site feed status
 
--- a feed whose work was done is intact, or it is damaged
-abbrev pub done_of : List ℕ → Done
-done_of feed = if feed_is_intact feed then Intact else Damaged
+-- a sink before a run and after it: what it took, and its count of faults
+pub record Sunk : Type 0 where
+  pub before : Option (List ℕ)
+  pub after : Option (List ℕ)
+  pub faults_before : ℕ
+  pub faults_after : ℕ
 
--- the exit statuses
-abbrev pub done_status : Done → ℕ
-done_status Intact = 0
-done_status Damaged = 7
+abbrev pub sunk : Option (List ℕ) → Option (List ℕ) → ℕ → ℕ → Sunk
+sunk before after faults_before faults_after = record { before = before; after = after; faults_before = faults_before; faults_after = faults_after }
 
-abbrev pub stop_status : stop.Stop → ℕ
-stop_status stops.Usage = 2
-stop_status stops.Unsupported = 3
-stop_status stops.Unread = 4
-stop_status stops.Unwritten = 5
-stop_status stops.NoMemory = 6
+-- the alert bytes were written: all of them where the work was done, or where the sink didn't fail though a write did,
+-- and a prefix of them at any other status
+pub record WritesAlerts (status : ℕ) (out : Sunk) (alerts : List ℕ) : Type 0 where
+  pub prefix : AppendsPrefix out.before out.after alerts
+  pub done : IsDone status → Appends out.before out.after alerts
+  pub unbroken : status ≡ 5 → (Rose out.faults_before out.faults_after → ⊥) → Appends out.before out.after alerts
 
-abbrev pub status_of : Result Done stop.Stop → ℕ
-status_of (Ok done) = done_status done
-status_of (Err stopped) = stop_status stopped
+-- so it is of a supported feed
+abbrev pub Serves : ℕ → Sunk → Site → List ℕ → Type 0
+Serves status out site feed = FeedIsSupported site feed → WritesAlerts status out (reference site feed)
 
--- a feed that wasn't read stops the run for the same cause
-abbrev pub GivesStop : unread.Unread → stop.Stop → Type 0
-GivesStop unreads.Failed s = s ≡ stops.Unread
-GivesStop unreads.NoMemory s = s ≡ stops.NoMemory
+-- ---- the text that is due on `report`
 
--- done: the feed is supported, its alert bytes were written, and this says whether it is intact
-abbrev pub IsDone : Done → Ran → Type 0
-IsDone done r = IsSome r.name × IfSome r.feed (λ feed. FeedIsSupported SITE feed × (done ≡ done_of feed) × Appends r.taken.before r.taken.after (reference SITE feed))
+-- the report of the feed, where it is told
+abbrev pub IsReport : Found → List ℕ → Type 0
+IsReport (Given site feed) text = text ≡ text_of (report_of site feed)
+IsReport OtherWords text = ⊥
+IsReport Untold text = (report : Report) × (text ≡ text_of report)
+IsReport (Lacking name) text = ⊥
+IsReport (Refused fault) text = ⊥
+IsReport Several text = ⊥
 
--- stopped, by its cause
-abbrev pub StopsBy : stop.Stop → Ran → Type 0
-StopsBy stops.Usage r = r.name ≡ None
-StopsBy stops.Unsupported r = IsSome r.name × IfSome r.feed (λ feed. FeedIsSupported SITE feed → ⊥)
-StopsBy stops.Unread r = IsSome r.name × (IsSomeAnd r.name (Lacks r.files) ⊎ Rose r.world.before r.world.after)
-StopsBy stops.Unwritten r = IsSome r.name × Rose r.out.before r.out.after × IfSome r.feed (λ feed. FeedIsSupported SITE feed × AppendsPrefix r.taken.before r.taken.after (reference SITE feed))
-StopsBy stops.NoMemory r = IsSome r.name
+-- why the site or its feed is refused
+abbrev pub IsRefusal : Found → List ℕ → Type 0
+IsRefusal (Given site feed) text = text ≡ not_built_text
+IsRefusal OtherWords text = ⊥
+IsRefusal Untold text = (text ≡ not_built_text) ⊎ ((fault : SiteFault) × (text ≡ site_text fault))
+IsRefusal (Lacking name) text = ⊥
+IsRefusal (Refused fault) text = text ≡ site_text fault
+IsRefusal Several text = text ≡ not_built_text
 
--- so a run ends
-abbrev pub Ends : Ran → Result Done stop.Stop → Type 0
-Ends r result = MatchResult result (λ done. IsDone done r) (λ stopped. StopsBy stopped r)
+-- which of the names wasn't opened or read
+abbrev pub IsUnread : List (List ℕ) → List ℕ → Type 0
+IsUnread names text = (name : List ℕ) × Contains names name × ((text ≡ cannot_open name) ⊎ (text ≡ read_failed name))
+
+-- the text that is due at a status
+pub record IsDue (found : Found) (names : List (List ℕ)) (status : ℕ) (text : List ℕ) : Type 0 where
+  pub done : IsDone status → IsReport found text
+  pub usage : status ≡ 2 → text ≡ usage_text
+  pub refused : status ≡ 3 → IsRefusal found text
+  pub unread : status ≡ 4 → IsUnread names text
+  pub unwritten : status ≡ 5 → text ≡ write_failed_text
+  pub memory : status ≡ 6 → text ≡ out_of_memory_text
+
+-- a text was taken from there on: all of it, or a prefix where the count rose
+pub record Takes (from : Option (List ℕ)) (sink : Sunk) (text : List ℕ) : Type 0 where
+  pub prefix : AppendsPrefix from sink.after text
+  pub whole : (Rose sink.faults_before sink.faults_after → ⊥) → Appends from sink.after text
+
+-- the text due was taken; where a write failed, a prefix of the report may stand before it
+pub record Reports (found : Found) (names : List (List ℕ)) (status : ℕ) (sink : Sunk) : Type 0 where
+  pub text : List ℕ
+  pub due : IsDue found names status text
+  pub middle : Option (List ℕ)
+  pub alone : status ≢ 5 → middle ≡ sink.before
+  pub late : status ≡ 5 → (report : List ℕ) × IsReport found report × AppendsPrefix sink.before middle report
+  pub taken : Takes middle sink text

@@ -1,23 +1,20 @@
 -- What the code relies on of a site and of the rows of a table (the ranges are this project's profile).
 use Rattle.std.specs.Prelude.{◌≤◌, pos, ◌≤ℤ◌, ◌<ℤ◌, ◌+ℤ◌, unsigned_abs}
-use Rattle.cat062_read.specs.Tracks.{IsInPlane, IsLevelled}
-use Rattle.replay_cli.specs.declared.site.Site.{Site}
+use Rattle.track_motion.specs.Tracks.{IsInPlane, IsLevelled}
+use Rattle.site_params.specs.declared.site.Site.{Site}
 use Rattle.replay_cli.specs.declared.table.Row.{Row}
 use Rattle.replay_cli.specs.Cycle.{cycle_time}
 use Rattle.replay_cli.specs.declared.motion.TheConstants.{LONGEST_AGE}
-use Rattle.replay_cli.specs.declared.site.TheConstants.{SECOND}
 use Rattle.replay_cli.specs.Stamps.{day}
-use Rattle.replay_cli.specs.Stca.{IsSet}
 
--- a site's times and correction, in the ranges that a site may give
-pub record IsSite (site : Site) : Type 0 where
+-- a site's times and correction, as the stages of a cycle rely on them
+pub record IsTimed (site : Site) : Type 0 where
   pub start_low : pos 0 ≤ℤ site.start
   pub start_high : site.start <ℤ day
-  pub period_low : SECOND ≤ℤ site.period
+  pub period_low : pos 1 ≤ℤ site.period
   pub period_high : site.period ≤ℤ pos LONGEST_AGE
   pub timeout : site.timeout ≤ℤ pos LONGEST_AGE
   pub qnh : unsigned_abs site.qnh ≤ 200
-  pub set : IsSet site.set
 
 -- a row of cycle 0's table: its stamp is before the cycle's end, at a place and a level within what a record can say
 pub record IsRow (site : Site) (row : Row) : Type 0 where

@@ -3,9 +3,9 @@ use Rattle.std.specs.Prelude.{ℕ, ◌/◌, ℤ, pos, ◌+ℤ◌, ◌-ℤ◌, Li
 use Rattle.std.specs.List.{fold, filter_map}
 use Rattle.std.specs.Int.{int_rem_euclid, int_max}
 use Rattle.cat062_read.specs.declared.record.Raw062.{Raw062}
-use Rattle.cat062_read.specs.declared.track.Track.{Track}
+use Rattle.track_motion.specs.declared.track.Track.{Track}
 use Rattle.cat062_read.specs.Tracks.{track_of}
-use Rattle.cat062_read.specs.declared.track.TheConstants.{TICKS_PER_DAY}
+use Rattle.track_motion.specs.declared.track.TheConstants.{TICKS_PER_DAY}
 use Rattle.replay_cli.specs.declared.table.Row.{Row}
 
 -- ticks of 1/128 s in a day, and in half of one

@@ -1,11 +1,12 @@
 -- Which pairs the short term conflict alert is for, and the figures of a hit (in outline after EUROCONTROL's guidance
 -- material for STCA; rules and numbers are this project's profile). Linear prediction holds at no tick yet.
-use Rattle.std.specs.Prelude.{ℕ, ◌*◌, min, Bool, ◌&&◌, int_lt, int_le, Option, Some, None, unsigned_abs, ℤ, pos, ◌*ℤ◌, ◌≤ℤ◌, if◌then◌else◌}
+use Rattle.std.specs.Prelude.{ℕ, ◌*◌, min, get_or, Bool, ◌&&◌, int_lt, int_le, Option, Some, None, unsigned_abs, ℤ, pos, ◌*ℤ◌, ◌≤ℤ◌, if◌then◌else◌}
 use Rattle.cat004_write.specs.declared.event.HitData.{HitData}
 use Rattle.tick_sets.specs.Plane.{scalar_product, squared_length}
 use Rattle.replay_cli.specs.declared.motion.Motion.{Motion}
 use Rattle.replay_cli.specs.declared.motion.TheConstants.{LENGTH_UNITS_PER_HALF_METRE, HEIGHT_UNITS_PER_25_FT}
-use Rattle.replay_cli.specs.declared.site.Set.{Set}
+use Rattle.site_params.specs.declared.site.Set.{Set}
+use Rattle.site_params.specs.declared.site.TheConstants.{STCA}
 use Rattle.replay_cli.specs.declared.stca.TheConstants.{LARGEST_CHS, LARGEST_SEPARATION, URGENT_AND_CURRENT}
 use Rattle.replay_cli.specs.Relative.{RelativeMotion, relative, closest_tick, horizontal, vertical}
 
@@ -29,6 +30,10 @@ is_closing r = int_le (scalar_product r.dx r.dy r.dvx r.dvy) (pos 0)
 abbrev pub is_current : Motion → Motion → Set → Bool
 is_current a b set = is_near (relative a b) set.now_h && is_level (relative a b) (now_v a b set) && is_closing (relative a b)
 
+-- how far the net looks ahead
+abbrev pub look : Set → ℤ
+look set = get_or set.look STCA (pos 0)
+
 -- the figures of a pair in current proximity: now at tick 0, the minimum at the closest tick; each is at most what its
 -- field holds
 abbrev pub figures_at : RelativeMotion → ℕ → HitData
@@ -43,7 +48,7 @@ figures_at r closest = record {
 }
 
 abbrev pub figures : RelativeMotion → Set → HitData
-figures r set = figures_at r (closest_tick r (unsigned_abs set.look))
+figures r set = figures_at r (closest_tick r (unsigned_abs (look set)))
 
 -- the figures of a pair that is hit
 abbrev pub stca_hit : Motion → Motion → Set → Option HitData
@@ -55,8 +60,8 @@ IsFromTo z low high = (pos low ≤ℤ z) × (z ≤ℤ pos high)
 
 -- the values that current proximity takes of a set, in the ranges that a site may give: a look-ahead to 120 s, a split to
 -- 60,000 ft, limits from 1 m to 100 km and from 25 ft to 10,000 ft (this project's profile)
-pub record IsSet (set : Set) : Type 0 where
-  pub look : IsFromTo set.look 0 15360
+pub record IsPaired (set : Set) : Type 0 where
+  pub look : IsFromTo (look set) 0 15360
   pub split : IsFromTo set.split 0 (2400 * HEIGHT_UNITS_PER_25_FT)
   pub now_h : IsFromTo set.now_h (2 * LENGTH_UNITS_PER_HALF_METRE) (200000 * LENGTH_UNITS_PER_HALF_METRE)
   pub now_v_low : IsFromTo set.now_v_low HEIGHT_UNITS_PER_25_FT (400 * HEIGHT_UNITS_PER_25_FT)

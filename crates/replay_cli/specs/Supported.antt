@@ -1,8 +1,8 @@
 -- The records that the program makes a cycle of so far: all of cycle 0, no two usable records of one track (this project's profile).
 use Rattle.std.specs.Prelude.{◌≢◌, ℤ, pos, ◌+ℤ◌, ◌<ℤ◌, ◌≤ℤ◌, List, [], ◌∷◌, map}
 use Rattle.std.specs.List.{AllByRecursion}
-use Rattle.cat062_read.specs.declared.track.Track.{Track}
-use Rattle.cat062_read.specs.declared.track.TrackKey.{TrackKey}
+use Rattle.track_motion.specs.declared.track.Track.{Track}
+use Rattle.track_motion.specs.declared.track.TrackKey.{TrackKey}
 use Rattle.replay_cli.specs.declared.motion.TheConstants.{LONGEST_AGE}
 use Rattle.replay_cli.specs.Stamps.{day, rows_from}
 

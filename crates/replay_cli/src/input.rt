@@ -1,26 +1,28 @@
-//! Reading a feed: its content, in whatever pieces it comes.
-ghost use Rattle.std.specs.Prelude.{◌≡◌, ◌≤◌, ◌⊎◌, ◌++◌, IfOk, OnOk, IsErrOf, All};
+//! Reading a source: a text of at most so many octets, or the content of a feed, in whatever pieces it comes.
+ghost use Rattle.std.specs.Prelude.{◌≡◌, ◌≤◌, ◌++◌, IfOk, OnOk, IsErrOf, All, not, length};
 ghost use Rattle.outside_io.specs.Faults.{Rose};
-ghost use Rattle.outside_io.specs.Names.{Lacks};
 ghost use Rattle.asterix_blocks.specs.Cutting.{StandsAt};
 ghost use Rattle.cat062_read.specs.Tracks.{IsPlaced};
-ghost use Rattle.replay_cli.specs.Content.{records_of, refusals_of, is_intact as intact};
-ghost use Rattle.replay_cli.specs.Feeds.{AddsBlocks, ReadsWhole, ReadsNamed};
+ghost use Rattle.replay_cli.specs.Content.{is_of_category, records_of, refusals_of};
+ghost use Rattle.replay_cli.specs.Feeds.{AddsBlocks, ReadsText, ReadsWhole, TakesAtMost, with_one};
 
-use asterix_blocks::{Block, Cutter, End, FEED_ROOM};
+use crate::content::Input;
+use asterix_blocks::{Block, Cutter, FEED_ROOM};
 use asterix_fields::sizes::HEADER_LENGTH;
 use cat062_read::{CATEGORY, Raw062, Refused, read_block};
-use outside_io::{OpenFault, Source, World};
+use outside_io::Source;
 use std::alloc::{AllocError, Global};
 
 /// The octets that are asked for at a time.
 const PIECE: usize = 16_384;
 
-/// Why a feed wasn't read.
+/// Why nothing was read of a name or of a source.
 #[derive(Clone, Copy, Debug, PartialEq, Eq)]
 pub enum Unread {
-    /// There is no such name, or the world or the source failed.
-    Failed,
+    /// There is no such name, or it can't be opened.
+    Unopened,
+    /// A read failed.
+    Broken,
     /// Want of memory.
     NoMemory,
 }
@@ -36,38 +38,27 @@ impl From<AllocError> for Unread {
     }
 }
 
-/// The content of blocks, each in the order of the feed.
+/// The content of blocks, each in the order of the feed: how many are of category 062 and how many of others,
+/// their records, and what is refused of them. Counts stop at their last value.
 #[derive(Debug, Drop)]
 pub struct Gathered {
+    pub blocks: u64,
+    pub passed: u64,
     pub records: Vec<Raw062>,
     pub refused: Vec<Refused>,
-}
-
-/// The content of a feed: its records, what is refused of it with its place, and how it ends.
-#[derive(Debug, Drop)]
-pub struct Input {
-    pub records: Vec<Raw062>,
-    pub refused: Vec<Refused>,
-    pub end: End,
-}
-
-impl Input {
-    /// Whether nothing of the feed is refused and it ends behind a whole block.
-    pub fn is_intact(&self) -> bool
-        ensures { result ≡ intact self.now.refused.items self.now.end }
-    {
-        self.refused.is_empty() && matches!(self.end, End::Clean)
-    }
 }
 
 /// Adds the content of a block of category 062; a block of another category is passed over.
 fn add_block(alloc: Global, block: &Block, gathered: &mut Gathered) -> Result<(), AllocError>
     requires { StandsAt block.now.offset block.now }
+    ensures blocks { OnOk result (gathered.new.blocks ≡ with_one gathered.old.blocks (is_of_category block.now)) }
+    ensures passed { OnOk result (gathered.new.passed ≡ with_one gathered.old.passed (not (is_of_category block.now))) }
     ensures records { OnOk result (gathered.new.records.items ≡ gathered.old.records.items ++ records_of block.now) }
     ensures refused { OnOk result (gathered.new.refused.items ≡ gathered.old.refused.items ++ refusals_of block.now) }
     ensures placed { OnOk result (All IsPlaced gathered.old.records.items → All IsPlaced gathered.new.records.items) }
 {
     if block.category != CATEGORY {
+        gathered.passed = gathered.passed.saturating_add(1);
         return Ok(());
     }
     let place = block.offset + HEADER_LENGTH as u64;
@@ -76,6 +67,7 @@ fn add_block(alloc: Global, block: &Block, gathered: &mut Gathered) -> Result<()
     if let Some(refused) = read.refused {
         gathered.refused.push(refused)?;
     }
+    gathered.blocks = gathered.blocks.saturating_add(1);
     Ok(())
 }
 
@@ -91,15 +83,18 @@ fn add_blocks(alloc: Global, cutter: &mut Cutter, gathered: &mut Gathered) -> Re
 }
 
 /// The content of what a source has left, to its end or to a length that no block has.
-fn read_whole<S: Source>(alloc: Global, source: &mut S) -> Result<Input, Unread>
+pub fn read_whole<S: Source>(alloc: Global, source: &mut S) -> Result<Input, Unread>
     ensures told { IfOk result (λ input. ReadsWhole (S.left source.old) input) }
-    ensures placed { IfOk result (λ input. All IsPlaced input.records.items) }
-    ensures failed { IsErrOf result Unread.Failed → Rose (S.faults source.old) (S.faults source.new) }
-    ensures kept { (IsErrOf result Unread.Failed → ⊥) → S.faults source.new ≡ S.faults source.old }
+    ensures placed { IfOk result (λ input. All IsPlaced input.records) }
+    ensures opened { IsErrOf result Unread.Unopened → ⊥ }
+    ensures failed { IsErrOf result Unread.Broken → Rose (S.faults source.old) (S.faults source.new) }
+    ensures kept { (IsErrOf result Unread.Broken → ⊥) → S.faults source.new ≡ S.faults source.old }
     ensures later { S.faults source.old ≤ S.faults source.new }
 {
     let mut cutter = Cutter::new(alloc)?;
     let mut gathered = Gathered {
+        blocks: 0,
+        passed: 0,
         records: Vec::new(alloc),
         refused: Vec::new(alloc),
     };
@@ -108,7 +103,7 @@ fn read_whole<S: Source>(alloc: Global, source: &mut S) -> Result<Input, Unread>
     while room > 0 && !cutter.has_bad_length() {
         let most = room.min(PIECE as u64) as usize;
         let Ok(count) = source.read(&mut piece[..most]) else {
-            return Err(Unread::Failed);
+            return Err(Unread::Broken);
         };
         if count == 0 {
             break;
@@ -117,32 +112,31 @@ fn read_whole<S: Source>(alloc: Global, source: &mut S) -> Result<Input, Unread>
         add_blocks(alloc, &mut cutter, &mut gathered)?;
         room -= count as u64;
     }
-    Ok(Input {
-        records: gathered.records,
-        refused: gathered.refused,
-        end: cutter.finish(),
-    })
+    Ok(Input::new(gathered, cutter.finish()))
 }
 
-/// The content of a named feed. The feed is closed again, whatever came.
-pub fn read_feed<W: World>(alloc: Global, world: &mut W, name: &str) -> Result<Input, Unread>
-    ensures told { IfOk result (λ input. ReadsNamed (W.files world.old) name.now input) }
-    ensures placed { IfOk result (λ input. All IsPlaced input.records.items) }
-    ensures failed { IsErrOf result Unread.Failed → Lacks (W.files world.old) name.now ⊎ Rose (W.faults world.old) (W.faults world.new) }
-    ensures lacking { Lacks (W.files world.old) name.now → IsErrOf result Unread.Failed }
-
-    // What stays as it was.
-    ensures files { W.files world.new ≡ W.files world.old }
-    ensures closed { W.opened world.new ≡ W.opened world.old }
-    ensures kept { (IsErrOf result Unread.Failed → ⊥) → W.faults world.new ≡ W.faults world.old }
-    ensures later { W.faults world.old ≤ W.faults world.new }
+/// The next octets of a source to its end, and at most so many.
+pub fn read_text<S: Source>(alloc: Global, source: &mut S, most: usize) -> Result<Vec<u8>, Unread>
+    ensures told { IfOk result (λ text. ReadsText (S.left source.old) most text.items) }
+    ensures within { TakesAtMost most (S.left source.old) (S.left source.new) }
+    ensures opened { IsErrOf result Unread.Unopened → ⊥ }
+    ensures failed { IsErrOf result Unread.Broken → Rose (S.faults source.old) (S.faults source.new) }
+    ensures kept { (IsErrOf result Unread.Broken → ⊥) → S.faults source.new ≡ S.faults source.old }
+    ensures later { S.faults source.old ≤ S.faults source.new }
 {
-    let mut feed = match world.open(alloc, name) {
-        Ok(feed) => feed,
-        Err(OpenFault::NoMemory) => return Err(Unread::NoMemory),
-        Err(OpenFault::NoSuch | OpenFault::Failed) => return Err(Unread::Failed),
-    };
-    let input = read_whole(alloc, &mut feed);
-    world.close(feed);
-    input
+    let mut text = Vec::new(alloc);
+    let mut piece = [0; PIECE];
+    let mut room = most;
+    while room > 0 {
+        let next = room.min(PIECE);
+        let Ok(count) = source.read(&mut piece[..next]) else {
+            return Err(Unread::Broken);
+        };
+        if count == 0 {
+            break;
+        }
+        text.extend_from_slice(&piece[..count])?;
+        room -= count;
+    }
+    Ok(text)
 }

@@ -3,18 +3,28 @@
 
 mod alerts;
 mod clock;
+mod content;
 pub mod cycle;
 mod input;
+pub mod laws;
 pub mod motion;
+mod named;
 mod relative;
-pub mod site;
+pub mod report;
+mod request;
 mod stca;
 mod supported;
 pub mod table;
+pub mod texts;
 mod top;
+pub mod words;
+mod work;
 
+pub use report::{FeedCount, FeedCounts, Refusals, Report, report_text};
 pub use supported::unbuilt;
+pub use texts::{FaultText, USAGE, tell};
 pub use top::replay_top;
+pub use words::{Plan, WordsFault, read_words};
 
 #[cfg(test)]
 mod tests;

@@ -2,12 +2,12 @@
 ghost use Rattle.std.specs.Prelude.{◌≡◌, ◌≤ℤ◌, pos, false, IfSome, IsTrue, min, unsigned_abs};
 ghost use Rattle.cat004_write.specs.Messages.{FitsOctets};
 ghost use Rattle.replay_cli.specs.Relative.{ArePair, relative};
-ghost use Rattle.replay_cli.specs.Stca.{IsSet, figures as figures_of, is_near, now_v as limit_of, stca_hit};
+ghost use Rattle.replay_cli.specs.Stca.{IsPaired, figures as figures_of, is_near, now_v as limit_of, stca_hit};
 
 use crate::motion::Motion;
 use crate::relative::{Relative, is_within};
-use crate::site::Set;
 use cat004_write::{CURRENT_PROXIMITY, HitData, URGENT};
+use site_params::{STCA, Set};
 
 /// The most that the field of the current horizontal separation holds, in half-metres.
 const LARGEST_CHS: u64 = 0xff_ffff;
@@ -22,7 +22,7 @@ const URGENT_AND_CURRENT: u8 = URGENT + CURRENT_PROXIMITY;
 /// where the pair isn't hit.
 pub fn examine(a: &Motion, b: &Motion, set: &Set) -> Option<HitData>
     requires pair { ArePair a.now b.now }
-    requires set { IsSet set.now }
+    requires set { IsPaired set.now }
     ensures hit { result ≡ stca_hit a.now b.now set.now }
     ensures room { IfSome result FitsOctets }
 {
@@ -45,7 +45,7 @@ fn are_far(a: &Motion, b: &Motion, limit: i64) -> bool
 /// The same as `examine`, of two tracks whatever their distance.
 fn examine_near(a: &Motion, b: &Motion, set: &Set) -> Option<HitData>
     requires pair { ArePair a.now b.now }
-    requires set { IsSet set.now }
+    requires set { IsPaired set.now }
     ensures hit { result ≡ stca_hit a.now b.now set.now }
     ensures room { IfSome result FitsOctets }
 {
@@ -70,11 +70,11 @@ fn now_v(a: &Motion, b: &Motion, set: &Set) -> i64
 
 /// The figures of a pair that is hit: the first tick is 0, and the alert is urgent and for current proximity.
 fn figures(apart: &Relative, set: &Set) -> HitData
-    requires { IsSet set.now }
+    requires { IsPaired set.now }
     ensures figures { result ≡ figures_of apart.now set.now }
     ensures room { FitsOctets result }
 {
-    let closest = apart.closest_tick(set.look);
+    let closest = apart.closest_tick(set.look[STCA]);
     HitData {
         first: 0,
         closest: u32::from(closest),

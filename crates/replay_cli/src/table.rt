@@ -1,5 +1,5 @@
 //! The table of a cycle.
-ghost use Rattle.std.specs.Prelude.{◌≡◌, IfOk, IsErrOf, OnOk, All};
+ghost use Rattle.std.specs.Prelude.{◌≡◌, IfOk, IsErrOf, OnOk, All, length, vec_len};
 ghost use Rattle.cat062_read.specs.Tracks.{IsPlaced};
 ghost use Rattle.std.specs.Bool.{OnTrue, OnFalse};
 ghost use Rattle.std.specs.List.{IsDistinct};
@@ -7,12 +7,12 @@ ghost use Rattle.std.specs.List.Sorted.{IsSorted, IsStrictlySortedBy};
 ghost use Rattle.std.specs.Ordering.{eq_by_cmp};
 ghost use Rattle.replay_cli.specs.Cycle.{entries_of, row_cmp, table as table_of};
 ghost use Rattle.replay_cli.specs.Reference.{tracks, AreSupported};
-ghost use Rattle.replay_cli.specs.Rows.{IsRow, IsSite};
+ghost use Rattle.replay_cli.specs.Rows.{IsRow, IsTimed};
 ghost use Rattle.replay_cli.specs.Stamps.{rows_from};
 
 use crate::clock::at_near;
-use crate::site::Site;
 use cat062_read::{Raw062, Track, track_of};
+use site_params::Site;
 use std::alloc::{AllocError, AllocFailed, Global};
 
 /// A track, and its stamp in ticks of 1/128 s.
@@ -55,12 +55,13 @@ impl From<AllocFailed<Row>> for Unserved {
 
 /// The table of cycle 0: a row for each usable record, in key order.
 pub fn table(alloc: Global, site: &Site, records: &[Raw062]) -> Result<Vec<Row>, Unserved>
-    requires site { IsSite site.now }
+    requires site { IsTimed site.now }
     requires placed { All IsPlaced records.now }
     ensures unsupported { IsErrOf result Unserved.Unsupported → AreSupported site.now records.now → ⊥ }
     ensures supported { OnOk result (AreSupported site.now records.now) }
     ensures rows { IfOk result (λ rows. entries_of rows.items ≡ table_of (rows_from site.now.start (tracks site.now records.now))) }
     ensures each { IfOk result (λ rows. All (IsRow site.now) rows.items) }
+    ensures count { IfOk result (λ rows. vec_len rows ≡ length (tracks site.now records.now)) }
 {
     let mut rows = rows_in_reading_order(alloc, site, records)?;
     rows.sort_unstable_by_key(|row| row.track.key);
@@ -76,7 +77,7 @@ fn rows_in_reading_order(
     site: &Site,
     records: &[Raw062],
 ) -> Result<Vec<Row>, Unserved>
-    requires site { IsSite site.now }
+    requires site { IsTimed site.now }
     requires placed { All IsPlaced records.now }
     ensures late { IsErrOf result Unserved.Unsupported → AreSupported site.now records.now → ⊥ }
     ensures rows { IfOk result (λ rows. rows.items ≡ rows_from site.now.start (tracks site.now records.now)) }

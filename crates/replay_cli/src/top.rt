@@ -1,130 +1,114 @@
 //! The program as one function over words, a world and sinks.
-ghost use Rattle.std.specs.Prelude.{◌≡◌, ◌≢◌, ◌≤◌, ◌⊎◌, ◌↔◌, None, IfSome, if◌then◌else◌};
-ghost use Rattle.std.specs.Option.{option_copied};
+ghost use Rattle.std.specs.Prelude.{◌≡◌, ◌≢◌, ◌≤◌, ◌⊎◌, IfErr, IfOk, Some};
 ghost use Rattle.outside_io.specs.Faults.{Rose};
-ghost use Rattle.replay_cli.specs.Run.{feed_name, told_feed, LacksFeed, Judges, Serves};
-ghost use Rattle.replay_cli.specs.Content.{is_intact as intact};
-ghost use Rattle.replay_cli.specs.Outcomes.{Ends, change, ran, status_of};
+ghost use Rattle.replay_cli.specs.Found.{found, names_of, request as requested, IfGiven, IsLacking};
+ghost use Rattle.replay_cli.specs.Outcomes.{Judges, Reports, Serves, sunk, IsDone};
+ghost use Rattle.replay_cli.specs.Ends.{Ends, Finishes, change, only_one, ran, status_done, status_of};
+ghost use Rattle.replay_cli.specs.FaultTexts.{text_of_fault};
+ghost use Rattle.replay_cli.specs.Stops.{stop_status as status_stopped};
+ghost use Rattle.replay_cli.specs.Telling.{Tells};
+ghost use Rattle.replay_cli.specs.Words.{texts};
 
-use crate::alerts::alert_bytes;
-use crate::input::{Input, Unread, read_feed};
-use crate::site::SITE;
-use crate::table::Unserved;
+use crate::named::{feed_of, site_of};
+use crate::request::{Request, asked};
+use crate::texts::{FaultText, tell};
+use crate::words::{Name, Names};
+use crate::work::{Work, work_of};
 use outside_io::{Sink, Sinks, Steps, World, write_whole};
 use std::alloc::Global;
 use std::sync::ledger::Ledger;
 
-/// What was found of a feed whose alert bytes were written whole.
-#[derive(Clone, Copy, Debug, PartialEq, Eq)]
-pub enum Done {
-    /// Nothing of it is refused, and it ends behind a whole block.
-    Intact,
-    /// Something of it is refused, or it is cut off.
-    Damaged,
-}
-
-/// Why a run ended early.
-#[derive(Clone, Copy, Debug, PartialEq, Eq)]
-pub enum Stop {
-    /// Other words than `replay NAME`.
-    Usage,
-    /// The feed isn't supported so far.
-    Unsupported,
-    /// The name can't be opened, or a read failed.
-    Unread,
-    /// A write failed.
-    Unwritten,
-    /// Want of memory.
-    NoMemory,
-}
-
-impl From<Unread> for Stop {
-    ghost use Rattle.replay_cli.specs.Outcomes.{GivesStop};
-
-    ghost from_gives = { GivesStop };
-
-    fn from(unread: Unread) -> Self {
-        match unread {
-            Unread::Failed => Stop::Unread,
-            Unread::NoMemory => Stop::NoMemory,
-        }
-    }
-}
-
-/// The exit status of a run that ended so.
-fn status(ending: Result<Done, Stop>) -> u8
-    ensures { result ≡ status_of ending }
+/// The only feed, since more than one isn't built yet.
+fn only(feeds: Names) -> Result<Name, FaultText>
+    ensures { result ≡ only_one feeds }
 {
-    match ending {
-        Ok(Done::Intact) => 0,
-        Err(Stop::Usage) => 2,
-        Err(Stop::Unsupported) => 3,
-        Err(Stop::Unread) => 4,
-        Err(Stop::Unwritten) => 5,
-        Err(Stop::NoMemory) => 6,
-        Ok(Done::Damaged) => 7,
+    let mut names = feeds.into_vec();
+    match (names.pop(), names.pop()) {
+        (Some(name), None) => Ok(Name::new(name)),
+        _ => Err(FaultText::NotBuilt),
     }
 }
 
-/// The name of the feed in the words `replay NAME`.
-fn named(words: &[String]) -> Option<&str>
-    ensures { option_copied result ≡ feed_name words.now }
-{
-    match words {
-        [command, name] if command.as_str() == "replay" => Some(name.as_str()),
-        _ => None,
-    }
-}
-
-/// Writes the alert bytes of the feed that the words name.
+/// Writes the alert bytes of the feed that the words name, under the site that they name.
 fn replay<W: World, K: Sink>(
     alloc: Global,
     words: &[String],
     world: &mut W,
     out: &mut K,
-) -> Result<Done, Stop>
-    ensures ends { Ends (ran (W.files world.old) words.now
+) -> Result<Work, FaultText>
+    ensures ends { Ends (ran (W.files world.old) (texts words.now)
         (change (W.faults world.old) (W.faults world.new))
-        (change (K.faults out.old) (K.faults out.new))
-        (change (K.taken out.old) (K.taken out.new))) result }
-    ensures lacking { LacksFeed (W.files world.old) words.now → status_of result ≡ 4 }
+        (sunk (K.taken out.old) (K.taken out.new) (K.faults out.old) (K.faults out.new))) result }
 
     // What stays as it was.
     ensures unfailed { status_of result ≢ 4 → W.faults world.new ≡ W.faults world.old }
     ensures later { W.faults world.old ≤ W.faults world.new }
     ensures unbroken { status_of result ≢ 5 → K.faults out.new ≡ K.faults out.old }
+    ensures louder { K.faults out.old ≤ K.faults out.new }
     ensures unused { status_of result ≢ 0 → status_of result ≢ 5 → status_of result ≢ 7 → out.new ≡ out.old }
     ensures files { W.files world.new ≡ W.files world.old }
     ensures closed { W.opened world.new ≡ W.opened world.old }
 {
-    let name = named(words).ok_or(Stop::Usage)?;
-    let input = read_feed(alloc, world, name)?;
-    let alerts = match alert_bytes(alloc, &SITE, &input.records) {
-        Ok(alerts) => alerts,
-        Err(Unserved::Unsupported) => return Err(Stop::Unsupported),
-        Err(Unserved::NoMemory) => return Err(Stop::NoMemory),
-    };
-    if write_whole(out, &alerts).is_err() {
-        return Err(Stop::Unwritten);
+    let Request { site, feeds } = asked(alloc, words)?;
+    let site = site_of(alloc, world, site)?;
+    let input = feed_of(alloc, world, only(feeds)?)?;
+    let work = work_of(alloc, &site, input)?;
+    if write_whole(out, &work.alerts).is_err() {
+        return Err(FaultText::WriteFailed);
     }
-    Ok(judged(&input))
+    Ok(work)
 }
 
-/// Whether a feed whose alert bytes were written is intact.
-fn judged(input: &Input) -> Done
-    ensures { result ≡ (if intact input.now.refused.items input.now.end then Done.Intact else Done.Damaged) }
+/// The exit status of a run whose work is done.
+fn done_status(is_intact: bool) -> u8
+    ensures { result ≡ status_done is_intact }
 {
-    if input.is_intact() {
-        Done::Intact
-    } else {
-        Done::Damaged
+    if is_intact { 0 } else { 7 }
+}
+
+/// The exit status of a run that stopped so.
+fn stop_status(stop: &FaultText) -> u8
+    ensures { result ≡ status_stopped stop.now }
+{
+    match stop {
+        FaultText::Usage => 2,
+        FaultText::Site(_) | FaultText::NotBuilt => 3,
+        FaultText::CannotOpen(_) | FaultText::ReadFailed(_) => 4,
+        FaultText::WriteFailed => 5,
+        FaultText::NoMemory => 6,
     }
 }
 
-/// Does all that the program does, and answers the exit status: 0 done, 2 for other words than
-/// `replay NAME`, 3 for a feed that isn't supported so far, 4 for a name that can't be opened or a read that
-/// failed, 5 for a write that failed, 6 for want of memory, 7 done with something refused or a feed that
-/// doesn't end behind a whole block. The order is words, open, read, support, write.
+/// Writes the fault text of a run that stopped so, and answers the exit status.
+fn stop<K: Sink>(stopped: &FaultText, report: &mut K) -> u8
+    ensures status { result ≡ status_stopped stopped.now }
+    ensures told { Tells (K.taken report.old) (K.taken report.new) (K.faults report.old) (K.faults report.new) (text_of_fault stopped.now) }
+{
+    tell(stopped, report);
+    stop_status(stopped)
+}
+
+/// Writes what is due on `report`, and answers the exit status.
+fn finish<K: Sink>(ending: Result<Work, FaultText>, report: &mut K) -> u8
+    ensures finished { Finishes ending result (sunk (K.taken report.old) (K.taken report.new) (K.faults report.old) (K.faults report.new)) }
+    ensures later { K.faults report.old ≤ K.faults report.new }
+{
+    match ending {
+        Ok(work) => {
+            if write_whole(report, &work.report).is_ok() {
+                done_status(work.is_intact)
+            } else {
+                stop(&FaultText::WriteFailed, report)
+            }
+        }
+        Err(stopped) => stop(&stopped, report),
+    }
+}
+
+/// Does all that the program does, and answers the exit status: 0 done, 2 for words that ask for nothing that
+/// is done here, 3 for a site that is refused or a feed that isn't supported so far, 4 for a name that can't be
+/// opened or a read that failed, 5 for a write that failed, 6 for want of memory, 7 done with something refused
+/// or a feed that doesn't end behind a whole block. The order is words, site, feed, support, alerts, report.
 pub fn replay_top<W: World, K: Sink, L: Ledger>(
     alloc: Global,
     words: &[String],
@@ -135,29 +119,34 @@ pub fn replay_top<W: World, K: Sink, L: Ledger>(
     // No other status comes.
     ensures statuses { (result ≡ 0) ⊎ (result ≡ 2) ⊎ (result ≡ 3) ⊎ (result ≡ 4) ⊎ (result ≡ 5) ⊎ (result ≡ 6) ⊎ (result ≡ 7) }
 
-    // The headline: where the world tells the feed's bytes and the feed is supported, the statuses 0 and 7 have
-    // written the reference's alert bytes to `out`, and any other status a prefix of them.
-    ensures headline { IfSome (told_feed (W.files world.old) words.now)
-        (Serves SITE result (K.taken sinks.old.out) (K.taken sinks.new.out)) }
+    // The headline: where the world tells the site and the feed and the feed is supported, the statuses 0 and 7
+    // have written the reference's alert bytes to `out`, and any other status a prefix of them.
+    ensures headline { IfGiven (found (W.files world.old) (texts words.now))
+        (Serves result (sunk (K.taken sinks.old.out) (K.taken sinks.new.out) (K.faults sinks.old.out) (K.faults sinks.new.out))) }
 
     // The cause of each status.
-    ensures usage { (result ≡ 2) ↔ (feed_name words.now ≡ None) }
-    ensures lacking { LacksFeed (W.files world.old) words.now → result ≡ 4 }
-    ensures support { IfSome (told_feed (W.files world.old) words.now) (Judges SITE result) }
-    ensures unread { result ≡ 4 → LacksFeed (W.files world.old) words.now ⊎ Rose (W.faults world.old) (W.faults world.new) }
-    ensures unwritten { result ≡ 5 → Rose (K.faults sinks.old.out) (K.faults sinks.new.out) }
+    ensures judged { Judges (found (W.files world.old) (texts words.now)) result }
+    ensures unread { result ≡ 4 → IsLacking (found (W.files world.old) (texts words.now)) ⊎ Rose (W.faults world.old) (W.faults world.new) }
+    ensures unwritten { result ≡ 5 → Rose (K.faults sinks.old.out) (K.faults sinks.new.out) ⊎ Rose (K.faults sinks.old.report) (K.faults sinks.new.report) }
+
+    // What `report` took.
+    ensures told { Reports (found (W.files world.old) (texts words.now)) (names_of (requested (texts words.now))) result
+        (sunk (K.taken sinks.old.report) (K.taken sinks.new.report) (K.faults sinks.old.report) (K.faults sinks.new.report)) }
 
     // No fault is passed over.
     ensures unfailed { result ≢ 4 → W.faults world.new ≡ W.faults world.old }
-    ensures later { W.faults world.old ≤ W.faults world.new }
     ensures unbroken { result ≢ 5 → K.faults sinks.new.out ≡ K.faults sinks.old.out }
+    ensures reported { IsDone result → K.faults sinks.new.report ≡ K.faults sinks.old.report }
+    ensures later { W.faults world.old ≤ W.faults world.new }
+    ensures out_later { K.faults sinks.old.out ≤ K.faults sinks.new.out }
+    ensures report_later { K.faults sinks.old.report ≤ K.faults sinks.new.report }
 
     // What stays as it was.
     ensures unused { result ≢ 0 → result ≢ 5 → result ≢ 7 → sinks.new.out ≡ sinks.old.out }
-    ensures report { sinks.new.report ≡ sinks.old.report }
     ensures files { W.files world.new ≡ W.files world.old }
     ensures closed { W.opened world.new ≡ W.opened world.old }
     ensures steps { _steps.new ≡ _steps.old }
 {
-    status(replay(alloc, words, world, &mut sinks.out))
+    let ending = replay(alloc, words, world, &mut sinks.out);
+    finish(ending, &mut sinks.report)
 }

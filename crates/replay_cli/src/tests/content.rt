@@ -4,7 +4,10 @@ use super::feeds::{
     ENDS, FIRST, OTHER_CATEGORY, SECOND, block_of, every_form, half_refused, joined,
 };
 use super::outside::{NAME, Outside, world_of};
-use crate::input::{Input, read_feed};
+use crate::content::Input;
+use crate::input::Gathered;
+use crate::named::feed_under;
+use crate::report::FeedCount;
 use asterix_blocks::{End, frame};
 use cat062_read::{Refused, read_block};
 use std::alloc::{AllocError, Global};
@@ -15,6 +18,7 @@ use std::test::Fail;
 pub fn plain(rt: &impl Abort, alloc: Global, feed: &[u8]) -> Result<Input, AllocError> {
     assert!(rt; feed.len() <= 65_535);
     let framed = frame(alloc, feed)?;
+    let (mut blocks, mut passed) = (0u64, 0u64);
     let mut records = Vec::new(alloc);
     let mut refused = Vec::new(alloc);
     for block in &framed.blocks {
@@ -24,24 +28,46 @@ pub fn plain(rt: &impl Abort, alloc: Global, feed: &[u8]) -> Result<Input, Alloc
             let read = read_block(alloc, body, block.offset + 3)?;
             records.extend(read.records)?;
             refused.extend(read.refused)?;
+            blocks = blocks.saturating_add(1);
+        } else {
+            passed = passed.saturating_add(1);
         }
     }
-    Ok(Input {
+    let gathered = Gathered {
+        blocks,
+        passed,
         records,
         refused,
-        end: framed.end,
-    })
+    };
+    Ok(Input::new(gathered, framed.end))
+}
+
+/// What is counted of a feed, and whether it is intact.
+#[derive(Drop)]
+struct Counted {
+    count: FeedCount,
+    is_intact: bool,
 }
 
 /// What is read of the feed. Whole lists tell the same.
-fn content(rt: &impl Abort, alloc: Global, outside: Outside<'_>) -> Result<Input, Fail> {
+fn content(rt: &impl Abort, alloc: Global, outside: Outside<'_>) -> Result<Counted, Fail> {
     let mut world = world_of(alloc, outside)?;
-    let input = read_feed(alloc, &mut world, NAME)?;
+    let input = feed_under(alloc, &mut world, NAME)?;
     let expected = plain(rt, alloc, outside.feed)?;
-    assert!(rt; input.records.as_slice() == expected.records.as_slice());
-    assert!(rt; input.refused.as_slice() == expected.refused.as_slice());
-    assert_eq!(rt; input.end, expected.end);
-    Ok(input)
+    assert!(rt; input.records() == expected.records());
+    let is_intact = input.is_intact();
+    let (count, wanted) = (input.into_count(0), expected.into_count(0));
+    assert_eq!(rt;
+        (count.blocks, count.passed),
+        (wanted.blocks, wanted.passed)
+    );
+    assert_eq!(rt;
+        (count.records, count.refusals),
+        (wanted.records, wanted.refusals)
+    );
+    assert!(rt; count.refused.as_slice() == wanted.refused.as_slice());
+    assert_eq!(rt; count.end, wanted.end);
+    Ok(Counted { count, is_intact })
 }
 
 /// The feed of every form is cut off at each place, and read in two pieces.
@@ -55,8 +81,8 @@ fn every_form_cut_off(rt: HostRuntime) -> Result<(), Fail> {
             ..Outside::of(&feed[..place.min(feed.len())])
         };
         let input = content(&rt, alloc, outside)?;
-        assert!(rt; input.refused.is_empty());
-        assert_eq!(rt; input.is_intact(), place == 0 || ENDS.contains(&place));
+        assert_eq!(rt; input.count.refusals, 0);
+        assert_eq!(rt; input.is_intact, place == 0 || ENDS.contains(&place));
     }
     Ok(())
 }
@@ -81,10 +107,14 @@ fn check(
 ) -> Result<(), Fail> {
     let feed = joined(alloc, blocks)?;
     let input = content(rt, alloc, Outside::of(&feed))?;
-    assert_eq!(rt; listed(alloc, &input.refused)?.as_str(), refused, "{what}");
-    assert_eq!(rt; input.records.len(), 2, "{what}");
-    assert_eq!(rt; input.end, End::Clean, "{what}");
-    assert_eq!(rt; input.is_intact(), refused.is_empty(), "{what}");
+    assert_eq!(rt;
+        listed(alloc, input.count.refused.as_slice())?.as_str(),
+        refused,
+        "{what}"
+    );
+    assert_eq!(rt; input.count.records, 2, "{what}");
+    assert_eq!(rt; input.count.end, End::Clean, "{what}");
+    assert_eq!(rt; input.is_intact, refused.is_empty(), "{what}");
     Ok(())
 }
 

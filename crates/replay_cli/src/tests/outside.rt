@@ -3,6 +3,7 @@ ghost use Rattle.std.specs.Prelude.{◌≡◌, ◌<◌, Some};
 ghost use Rattle.outside_io.specs.Memory.{told};
 
 use super::feeds::ALERT;
+use super::site::SITE_A;
 use crate::replay_top;
 use outside_io::memory::{MemFile, MemSink, MemSource, MemWorld};
 use outside_io::{OpenFault, Sinks, Steps, World};
@@ -11,30 +12,42 @@ use std::marker::Brand;
 use std::process::Abort;
 use std::sync::ledger::{Blank, Ledger};
 
-/// The only name that the world knows.
+/// The names that the world knows: the feed's and the site's.
 pub const NAME: &str = "a.ast";
 
-/// The outside of a run: the feed behind `NAME`, the name that is asked for, how reads and writes are cut, and
-/// the calls that fail. Calls are numbered from 0.
+pub const SITE: &str = "site.toml";
+
+/// The outside of a run: the feed behind `NAME` and the site behind `SITE`, the feed that is asked for, how reads
+/// and writes are cut, and the calls that fail. Calls are numbered from 0; the site is opened first.
 #[derive(Clone, Copy)]
 pub struct Outside<'a> {
+    pub site: &'a [u8],
     pub feed: &'a [u8],
     pub asked: &'a str,
     pub cuts: &'a [u32],
     pub failing_reads: &'a [u64],
+    pub site_cuts: &'a [u32],
+    pub failing_site_reads: &'a [u64],
+    pub report_takes: &'a [u32],
+    pub failing_reports: &'a [u64],
     pub failing_opens: &'a [u64],
     pub takes: &'a [u32],
     pub failing_writes: &'a [u64],
 }
 
 impl<'a> Outside<'a> {
-    /// A feed that is asked for, read and written whole.
+    /// A feed that is asked for under a plain site, read and written whole.
     pub fn of(feed: &'a [u8]) -> Outside<'a> {
         Outside {
+            site: SITE_A.as_bytes(),
             feed,
             asked: NAME,
             cuts: &[],
             failing_reads: &[],
+            site_cuts: &[],
+            failing_site_reads: &[],
+            report_takes: &[],
+            failing_reports: &[],
             failing_opens: &[],
             takes: &[],
             failing_writes: &[],
@@ -42,29 +55,37 @@ impl<'a> Outside<'a> {
     }
 }
 
-/// How often the world and `out` failed.
+/// How often the world and the sinks failed.
 #[derive(Clone, Copy, Debug, PartialEq, Eq)]
 pub struct Faults {
     pub world: u64,
     pub out: u64,
+    pub report: u64,
 }
 
 /// Nothing failed.
-pub const NO_FAULT: Faults = Faults { world: 0, out: 0 };
+pub const NO_FAULT: Faults = Faults {
+    world: 0,
+    out: 0,
+    report: 0,
+};
 
 /// An open or a read failed.
-pub const WORLD_FAULT: Faults = Faults { world: 1, out: 0 };
+pub const WORLD_FAULT: Faults = Faults {
+    world: 1,
+    ..NO_FAULT
+};
 
 /// A write failed.
-pub const OUT_FAULT: Faults = Faults { world: 0, out: 1 };
+pub const OUT_FAULT: Faults = Faults { out: 1, ..NO_FAULT };
 
-/// What a run leaves: the status, the bytes on `out`, how often `report` was written, how often a feed was
-/// opened and read, how many are still open, and the counts of faults.
+/// What a run leaves: the status, the bytes on `out` and on `report`, how often a name was opened and read, how
+/// many are still open, and the counts of faults.
 #[derive(Drop)]
 pub struct Ran {
     pub status: u8,
     pub out: Vec<u8>,
-    pub report: u64,
+    pub report: Vec<u8>,
     pub opens: u64,
     pub reads: u64,
     pub opened: u64,
@@ -97,20 +118,34 @@ impl World for Watched {
     }
 }
 
-/// A world that knows the feed as `NAME`.
-pub fn world_of(alloc: Global, outside: Outside<'_>) -> Result<MemWorld, AllocError> {
-    let mut files = Vec::new(alloc);
-    files.push(MemFile {
-        name: String::from_str(alloc, NAME)?,
+/// A file in memory: its name and its bytes, how reads of it are cut, and the reads that fail.
+fn file_of(
+    alloc: Global,
+    name: &str,
+    bytes: &[u8],
+    cuts: &[u32],
+    fail: &[u64],
+) -> Result<MemFile, AllocError> {
+    Ok(MemFile {
+        name: String::from_str(alloc, name)?,
         source: MemSource {
-            bytes: outside.feed.to_vec(alloc)?,
-            cuts: outside.cuts.to_vec(alloc)?,
-            fail: outside.failing_reads.to_vec(alloc)?,
+            bytes: bytes.to_vec(alloc)?,
+            cuts: cuts.to_vec(alloc)?,
+            fail: fail.to_vec(alloc)?,
             at: 0,
             calls: 0,
             faults: 0,
         },
-    })?;
+    })
+}
+
+/// A world that knows the feed as `NAME` and the site as `SITE`.
+pub fn world_of(alloc: Global, outside: Outside<'_>) -> Result<MemWorld, AllocError> {
+    let mut files = Vec::new(alloc);
+    let (cuts, fail) = (outside.cuts, outside.failing_reads);
+    files.push(file_of(alloc, NAME, outside.feed, cuts, fail)?)?;
+    let (cuts, fail) = (outside.site_cuts, outside.failing_site_reads);
+    files.push(file_of(alloc, SITE, outside.site, cuts, fail)?)?;
     Ok(MemWorld {
         files,
         fail: outside.failing_opens.to_vec(alloc)?,
@@ -122,7 +157,7 @@ pub fn world_of(alloc: Global, outside: Outside<'_>) -> Result<MemWorld, AllocEr
 
 /// Runs the words that ask for the feed.
 pub fn replayed(alloc: Global, outside: Outside<'_>) -> Result<Ran, AllocError> {
-    run_words(alloc, outside, &["replay", outside.asked])
+    run_words(alloc, outside, &["replay", "--site", SITE, outside.asked])
 }
 
 /// Runs the words.
@@ -137,21 +172,24 @@ pub fn run_words(alloc: Global, outside: Outside<'_>, words: &[&str]) -> Result<
     };
     let takes = outside.takes.to_vec(alloc)?;
     let fail = outside.failing_writes.to_vec(alloc)?;
+    let report_takes = outside.report_takes.to_vec(alloc)?;
+    let failing_reports = outside.failing_reports.to_vec(alloc)?;
     let mut sinks = Sinks {
         out: MemSink::new(alloc, 100_000, takes, fail)?,
-        report: MemSink::new(alloc, 100, Vec::new(alloc), Vec::new(alloc))?,
+        report: MemSink::new(alloc, 10_000, report_takes, failing_reports)?,
     };
     let status = top::<Brand>(alloc, &owned, &mut world, &mut sinks, Blank::new(1));
     Ok(Ran {
         status,
         out: sinks.out.taken.as_slice().to_vec(alloc)?,
-        report: sinks.report.calls,
+        report: sinks.report.taken.as_slice().to_vec(alloc)?,
         opens: world.world.opens,
         reads: world.reads,
         opened: world.world.opened,
         faults: Faults {
             world: world.world.faults,
             out: sinks.out.faults,
+            report: sinks.report.faults,
         },
     })
 }
@@ -201,10 +239,14 @@ pub fn expect_alert(rt: &impl Abort, ran: &Ran, status: u8, is_alert: bool, what
     expect_octets(rt, ran, status, octets, what);
 }
 
-/// Checks a status, that nothing was asked of `report`, that no feed is left open, and the counts of faults.
+/// Checks what a run wrote to `report`.
+pub fn expect_report(rt: &impl Abort, ran: &Ran, text: &str, what: &str) {
+    assert!(rt; ran.report.as_slice() == text.as_bytes(), "report: {what}");
+}
+
+/// Checks a status, that no name is left open, and the counts of faults.
 fn expect_left(rt: &impl Abort, ran: &Ran, status: u8, faults: Faults, what: &str) {
     assert_eq!(rt; ran.status, status, "status: {what}");
-    assert_eq!(rt; ran.report, 0, "report: {what}");
     assert_eq!(rt; ran.opened, 0, "feeds left open: {what}");
     assert_eq!(rt; ran.faults, faults, "faults: {what}");
 }

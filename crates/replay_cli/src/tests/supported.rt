@@ -11,7 +11,7 @@ use std::test::Fail;
 
 /// Whether the records of a feed aren't supported for the cycle of the built-in site.
 fn is_unbuilt(rt: &impl Abort, alloc: Global, feed: &[u8]) -> Result<bool, AllocError> {
-    Ok(unbuilt(&plain(rt, alloc, feed)?.records, 4_608_000, 512))
+    Ok(unbuilt(&plain(rt, alloc, feed)?.records(), 4_608_000, 512))
 }
 
 #[test]

@@ -9,13 +9,13 @@ pub loop-b-preserved : goal.loop-b-preserved
 loop-b-preserved c =
     elim c.match-pair_hit.branch [
       | in-Some+in_ok-push w ↦
-          let more = found_more (hit_of c.args.site.now c.args.a.now) c.args.others.now c.loop-b.b-index _ w.in-Some.hit c.loop-b-test.true (sym w.in-Some.ensures.hit) in
+          let more = found_more (hit_of c.args.set.now c.args.a.now) c.args.others.now c.loop-b.b-index _ w.in-Some.hit c.loop-b-test.true (sym w.in-Some.ensures.hit) in
           record {
             found = rw (w.hits-is, w.in_ok-push.ensures.items, c.loop-b.invariant.found, more, append_assoc);
             room = rw (w.hits-is, w.in_ok-push.ensures.items) (each_push (λ h. FitsOctets h.figures) c.loop-b.hits.items w.in-Some.hit c.loop-b.invariant.room w.in-Some.ensures.room);
           }
       | in_default w ↦
-          let same = none_more (hit_of c.args.site.now c.args.a.now) c.args.others.now c.loop-b.b-index _ c.loop-b-test.true (sym w.in_default.ensures.hit) in
+          let same = none_more (hit_of c.args.set.now c.args.a.now) c.args.others.now c.loop-b.b-index _ c.loop-b-test.true (sym w.in_default.ensures.hit) in
           record {
             found = rw (w.hits-is, same) c.loop-b.invariant.found;
             room = rw w.hits-is c.loop-b.invariant.room;

@@ -7,6 +7,6 @@ use Rattle.replay_cli.proofs.cycle.add_hits.Given as goal
 
 abbrev pub invariant-loop-b : goal.invariant-loop-b
 invariant-loop-b l = record {
-  found : l.hits.items ≡ l.fn.hits.items ++ filter_map (hit_of l.site l.a) (take l.b-index l.others);
+  found : l.hits.items ≡ l.fn.hits.items ++ filter_map (hit_of l.set l.a) (take l.b-index l.others);
   room : AllByRecursion (λ h. FitsOctets h.figures) l.hits.items;
 }

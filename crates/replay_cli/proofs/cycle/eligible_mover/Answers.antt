@@ -1,9 +1,9 @@
 use Rattle.std.proofs.Common.{◌≡◌, Some, true, w64, to_z, of_z, sym, ◌∙◌, arith}
 use Rattle.std.proofs.lemmas.Int.{ints}
 use Rattle.replay_cli.specs.declared.table.Row.{Row}
-use Rattle.cat062_read.specs.declared.track.TrackKey.{TrackKey}
+use Rattle.track_motion.specs.declared.track.TrackKey.{TrackKey}
 use Rattle.replay_cli.specs.declared.motion.Motion.{Motion}
-use Rattle.replay_cli.specs.declared.site.Site.{Site}
+use Rattle.site_params.specs.declared.site.Site.{Site}
 use Rattle.replay_cli.specs.Cycle.{is_eligible, is_recent, mover_of, cycle_time}
 use Rattle.replay_cli.specs.Motions.{motion_at}
 use Rattle.replay_cli.proofs.Signed.{as_is}

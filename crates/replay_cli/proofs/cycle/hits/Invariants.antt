@@ -7,6 +7,6 @@ use Rattle.replay_cli.proofs.cycle.hits.Given as goal
 
 abbrev pub invariant-loop-i : goal.invariant-loop-i
 invariant-loop-i l = record {
-  found : l.hits.items ++ hits l.site (drop l.i l.movers) ≡ hits l.site l.movers;
+  found : l.hits.items ++ hits l.set (drop l.i l.movers) ≡ hits l.set l.movers;
   room : AllByRecursion (λ h. FitsOctets h.figures) l.hits.items;
 }

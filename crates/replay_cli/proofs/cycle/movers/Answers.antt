@@ -2,7 +2,7 @@ use Rattle.std.proofs.Common.{◌≡◌, List, [], ◌∷◌, ap, refl, sym, ◌
 use Rattle.std.specs.List.{cons_option, filter_map}
 use Rattle.std.proofs.lemmas.List.{take_all}
 use Rattle.replay_cli.specs.declared.cycle.Mover.{Mover}
-use Rattle.replay_cli.specs.declared.site.Site.{Site}
+use Rattle.site_params.specs.declared.site.Site.{Site}
 use Rattle.replay_cli.specs.declared.table.Row.{Row}
 use Rattle.replay_cli.specs.Cycle.{entries_of, mover_of, movers}
 use Rattle.replay_cli.specs.Motions.{InRange}

@@ -1,11 +1,13 @@
 use Rattle.std.proofs.Common.{◌≡◌, ◌++◌, ◌≤◌, List, [], ℕ, length, length-take-le, take, drop, refl, ap, ◌∙◌, arith}
 use Rattle.std.proofs.lemmas.List.{length-append, length-take, length-drop, take-append-le}
 use Rattle.asterix_blocks.specs.Framing.{framing_within, blocks}
-use Rattle.replay_cli.specs.declared.input.Input as read
 use Rattle.asterix_blocks.specs.Cutting.{Cuts}
 use Rattle.asterix_blocks.specs.declared.blocks.End.{End}
+use Rattle.asterix_blocks.specs.declared.TheConstants.{FEED_ROOM}
 use Rattle.replay_cli.specs.Feeds.{ReadsWhole, Gathers}
-use Rattle.replay_cli.proofs.Read.{input_of, read_to_end, read_to_room, read_whatever, read_of_fed, read_of_bad, at_end_before, consumes_nothing, consumes_more}
+use Rattle.replay_cli.specs.Content.{Content}
+use Rattle.replay_cli.specs.Feeds.{content_as}
+use Rattle.replay_cli.proofs.Read.{read_to_end, read_to_room, read_whatever, read_of_fed, read_of_bad, at_end_before, consumes_nothing, consumes_more}
 use Rattle.replay_cli.proofs.input.read_whole.Goals as goal
 use Rattle.replay_cli.proofs.input.read_whole.Goals.{then-loop-room-test+else-not-has_bad_length, else-loop-room-test, then-loop-room-test+then-not-has_bad_length+in-Ok+then-count-eq0}
 
@@ -15,7 +17,7 @@ nothing_framed = refl
 
 pub loop-room-init : goal.loop-room-init
 loop-room-init g c = record {
-  read = ([], consumes_nothing (g.S.Source.left c.args.source.now), rw nothing_framed c.in_ok-cutter.ensures.start, record { records = rw nothing_framed c.new-2.ensures.items; refused = rw nothing_framed c.new-3.ensures.items }, refl);
+  read = ([], consumes_nothing (g.S.Source.left c.args.source.now), rw nothing_framed c.in_ok-cutter.ensures.start, record { blocks = rw nothing_framed refl; passed = rw nothing_framed refl; records = rw nothing_framed c.new-2.ensures.items; refused = rw nothing_framed c.new-3.ensures.items }, refl);
   piece = refl;
   within = omega arith;
   placed = λ k d below. absurd (omega (arith, ap length c.new-2.ensures.items));
@@ -58,16 +60,17 @@ returns-clause-told g c =
     let r = c.loop-room.invariant.read in
     let ended : End = c.finish.result in
     let ends = c.finish.ensures.end r.0 (blocks r.0) r.2 in
-    let input : read.Input = input_of c.loop-room.gathered ended in
+    let input : Content = content_as c.loop-room.gathered ended in
     let left = g.S.Source.left c.args.source.now in
     let left_now = g.S.Source.left c.loop-room.source in
-    elim c.loop-room-test.branch [
+    let within : length r.0 ≤ FEED_ROOM = (let whole = r.4 in omega arith) in
+    rw c.new-4.ensures (elim c.loop-room-test.branch [
       | then-loop-room-test+else-not-has_bad_length w ↦
-          read_whatever left left_now r.0 input r.1 (let whole = r.4 in omega arith)
-          (read_of_bad c.loop-room.cutter c.loop-room.gathered ended r.0 r.2 r.3 ends w.if-not-has_bad_length.ensures.bad)
+          read_whatever left left_now r.0 input r.1 within
+          (read_of_bad c.loop-room.cutter c.loop-room.gathered ended r.0 within r.2 r.3 ends w.if-not-has_bad_length.ensures.bad)
       | else-loop-room-test w ↦
           let none = w.loop-room-test.false in
-          read_to_room left left_now r.0 input r.1 (let whole = r.4 in omega arith) (read_of_fed c.loop-room.gathered ended r.0 r.3 ends)
+          read_to_room left left_now r.0 input r.1 (let whole = r.4 in omega arith) (read_of_fed c.loop-room.gathered ended r.0 within r.3 ends)
       | then-loop-room-test+then-not-has_bad_length+in-Ok+then-count-eq0 w ↦
           let none = w.if-count-eq0.true in
           let kept = simp length-take at w.read.auto.buf in
@@ -76,5 +79,5 @@ returns-clause-told g c =
           let some = w.loop-room-test.true in
           read_to_end left left_now r.0 input r.1
           (at_end_before left_now (g.S.Source.left w.read.new.self) (rw none at w.in-Ok.ensures.bytes.0) (w.in-Ok.ensures.bytes.1 none (omega arith)))
-          (let whole = r.4 in omega arith) (read_of_fed c.loop-room.gathered ended r.0 r.3 ends)
-    ]
+          within (read_of_fed c.loop-room.gathered ended r.0 within r.3 ends)
+    ])

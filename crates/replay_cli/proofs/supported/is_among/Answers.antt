@@ -1,5 +1,5 @@
 use Rattle.std.proofs.Common.{pos, take, drop, List, ◌+◌, ◌∙◌, sym}
-use Rattle.cat062_read.specs.declared.track.Track.{Track}
+use Rattle.track_motion.specs.declared.track.Track.{Track}
 use Rattle.cat062_read.specs.Tracks.{track_of}
 use Rattle.replay_cli.specs.Stamps.{tracks_of}
 use Rattle.replay_cli.proofs.Lists.{found_at, found_more, none_more}

@@ -1,6 +1,6 @@
 use Rattle.std.proofs.Common.{ℤ, pos, ◌+◌, ◌+ℤ◌, take, drop, List, sym, w64, to_z}
 use Rattle.std.proofs.lemmas.List.{take_all}
-use Rattle.cat062_read.specs.declared.track.Track.{Track}
+use Rattle.track_motion.specs.declared.track.Track.{Track}
 use Rattle.cat062_read.specs.Tracks.{track_of}
 use Rattle.replay_cli.specs.Stamps.{tracks_of}
 use Rattle.replay_cli.proofs.Corrections.{supported_by_any}

@@ -2,9 +2,9 @@ use Rattle.std.proofs.Common.{◌≡◌, ℤ, ◌+◌, ◌+ℤ◌, take, drop, L
 use Rattle.std.specs.List.{All}
 use Rattle.std.proofs.lemmas.List.{take_all}
 use Rattle.std.proofs.lemmas.List.Elements.{All-append, All-from_recursion}
-use Rattle.cat062_read.specs.declared.track.Track.{Track}
+use Rattle.track_motion.specs.declared.track.Track.{Track}
 use Rattle.cat062_read.specs.Tracks.{track_of}
-use Rattle.replay_cli.specs.declared.site.Site.{Site}
+use Rattle.site_params.specs.declared.site.Site.{Site}
 use Rattle.replay_cli.specs.declared.table.Row.{Row}
 use Rattle.replay_cli.specs.Reference.{tracks}
 use Rattle.replay_cli.specs.Rows.{IsRow}

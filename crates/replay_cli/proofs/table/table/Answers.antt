@@ -1,13 +1,13 @@
-use Rattle.std.proofs.Common.{◌≡◌, List, rules}
+use Rattle.std.proofs.Common.{◌≡◌, ◌∙◌, suc, ℤ, List, [], ◌∷◌, length, refl, ap, arith, rules}
 use Rattle.std.specs.List.{All}
 use Rattle.std.specs.List.Sorted.{IsSorted, IsStrictlySortedBy, IsPermutation}
 use Rattle.std.proofs.lemmas.List.Sorted.{All-permutation, answers_always}
-use Rattle.cat062_read.specs.declared.track.Track.{Track}
+use Rattle.track_motion.specs.declared.track.Track.{Track}
 use Rattle.replay_cli.specs.declared.table.Row.{Row}
 use Rattle.replay_cli.specs.Cycle.{row_cmp}
 use Rattle.replay_cli.specs.Reference.{tracks}
 use Rattle.replay_cli.specs.Rows.{IsRow}
-use Rattle.replay_cli.specs.Stamps.{rows_from}
+use Rattle.replay_cli.specs.Stamps.{later, rows_from}
 use Rattle.replay_cli.proofs.Sorting.{sorted_is_table, distinct_sorted, supported_sorted, each_of, early_rows}
 use Rattle.replay_cli.proofs.table.table.Goals as goal
 
@@ -49,3 +49,15 @@ returns-clause-rows c =
 pub returns-clause-each : goal.returns-clause-each
 returns-clause-each c =
     All-permutation (IsRow c.args.site.now) c.in_ok-rows.rows.items c.sort_unstable_by_key.new.self.items c.sort_unstable_by_key.ensures.permutation c.in_ok-rows.ensures.each
+
+length_rows : (present : ℤ) (told : List Track) → length (rows_from present told) ≡ length told
+length_rows present [] = refl
+length_rows present (track ∷ others) = ap suc (length_rows (later present track) others)
+
+pub returns-clause-count : goal.returns-clause-count
+returns-clause-count c =
+    let told : List Track = tracks c.args.site.now c.args.records.now in
+    let whole = c.in_ok-rows.rows.ok in
+    let read = ap (λ (rows : List Row). length rows) c.in_ok-rows.ensures.rows in
+    let same = length_rows c.args.site.now.start told in
+    omega arith

@@ -1,13 +1,21 @@
-use Rattle.std.proofs.Common.{ap, rules}
-use Rattle.replay_cli.specs.Outcomes.{ran}
-use Rattle.replay_cli.proofs.Ends.{headline_of}
+use Rattle.std.proofs.Common.{ap}
+use Rattle.replay_cli.specs.Ends.{Ran, change, ran}
+use Rattle.replay_cli.specs.Outcomes.{Sunk, sunk}
+use Rattle.replay_cli.specs.Words.{texts}
+use Rattle.replay_cli.proofs.Ends.{headline_of, told_of}
 use Rattle.replay_cli.proofs.top.replay_top.Goals as goal
 
 pub returns-clause-headline : goal.returns-clause-headline
-returns-clause-headline g c = rw c.status.ensures (headline_of
-    (ran (g.W.World.files c.args.world.now) c.args.words.now
-    (record { before = g.W.World.faults c.args.world.now; after = g.W.World.faults c.replay.new.world })
-    (record { before = g.K.Sink.faults c.args.sinks.now.out; after = g.K.Sink.faults c.replay.new.out })
-    (record { before = g.K.Sink.taken c.args.sinks.now.out; after = g.K.Sink.taken c.replay.new.out }))
-    c.replay.result c.replay.ensures.ends
-    (λ not_intact not_cut not_damaged. ap g.K.Sink.taken (c.replay.ensures.unused not_intact not_cut not_damaged)))
+returns-clause-headline g c =
+    let r : Ran = ran (g.W.World.files c.args.world.now) (texts c.args.words.now) (change (g.W.World.faults c.args.world.now) (g.W.World.faults c.replay-ending.new.world))
+    (sunk (g.K.Sink.taken c.args.sinks.now.out) (g.K.Sink.taken c.replay-ending.new.out) (g.K.Sink.faults c.args.sinks.now.out) (g.K.Sink.faults c.replay-ending.new.out)) in
+    let report : Sunk = sunk (g.K.Sink.taken c.args.sinks.now.report) (g.K.Sink.taken c.finish.new.report) (g.K.Sink.faults c.args.sinks.now.report) (g.K.Sink.faults c.finish.new.report) in
+    headline_of r c.replay-ending.result c.finish.result report c.replay-ending.ensures.ends c.finish.ensures.finished
+    (λ not_intact not_cut not_damaged. ap g.K.Sink.taken (c.replay-ending.ensures.unused not_intact not_cut not_damaged))
+
+pub returns-clause-told : goal.returns-clause-told
+returns-clause-told g c =
+    let r : Ran = ran (g.W.World.files c.args.world.now) (texts c.args.words.now) (change (g.W.World.faults c.args.world.now) (g.W.World.faults c.replay-ending.new.world))
+    (sunk (g.K.Sink.taken c.args.sinks.now.out) (g.K.Sink.taken c.replay-ending.new.out) (g.K.Sink.faults c.args.sinks.now.out) (g.K.Sink.faults c.replay-ending.new.out)) in
+    let report : Sunk = sunk (g.K.Sink.taken c.args.sinks.now.report) (g.K.Sink.taken c.finish.new.report) (g.K.Sink.faults c.args.sinks.now.report) (g.K.Sink.faults c.finish.new.report) in
+    told_of r c.replay-ending.result c.finish.result report c.replay-ending.ensures.ends c.finish.ensures.finished

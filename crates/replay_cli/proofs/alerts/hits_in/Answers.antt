@@ -1,0 +1,6 @@
+use Rattle.std.proofs.Common.{◌≡◌, Some, sym}
+use Rattle.replay_cli.proofs.Sites.{first_paired}
+use Rattle.replay_cli.proofs.alerts.hits_in.Goals as goal
+
+pub hits-requires-clause-set : goal.hits-requires-clause-set
+hits-requires-clause-set c = first_paired c.args.site.now c.in-Some.set.now c.requires.site (sym c.in-Some.ensures)

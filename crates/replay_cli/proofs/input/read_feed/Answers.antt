@@ -1,5 +1,0 @@
-use Rattle.replay_cli.proofs.Read.{read_named}
-use Rattle.replay_cli.proofs.input.read_feed.Goals as goal
-
-pub returns-clause-told : goal.returns-clause-told
-returns-clause-told g c = read_named _ _ _ _ c.in-Ok.ensures.bytes c.read_whole-input.ensures.told

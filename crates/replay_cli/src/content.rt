@@ -1,0 +1,76 @@
+//! The content of a feed.
+ghost use Rattle.std.specs.Prelude.{◌≡◌, All};
+ghost use Rattle.asterix_blocks.specs.declared.blocks.End.{End};
+ghost use Rattle.replay_cli.specs.Content.{is_intact as intact};
+ghost use Rattle.replay_cli.specs.Counts.{feed_count};
+ghost use Rattle.replay_cli.specs.Feeds.{content_as};
+
+use crate::input::Gathered;
+use crate::report::{FeedCount, MOST_REFUSALS, Refusals};
+use asterix_blocks::End;
+use cat062_read::Raw062;
+use std::marker::Model;
+
+/// The content of a feed: how many blocks it has of category 062 and of others, its records, what is refused
+/// of it with its place, and how it ends.
+#[derive(Debug, Drop)]
+pub struct Input {
+    gathered: Gathered,
+    end: End,
+}
+
+impl Model for Input {
+    ghost use Rattle.replay_cli.specs.Content.{Content};
+    ghost use Rattle.replay_cli.specs.Feeds.{content_as};
+
+    ghost Value = { Content };
+
+    ghost view = { λ i. content_as i.gathered i.end };
+}
+
+impl Input {
+    /// What was gathered of a feed that ends so.
+    pub fn new(gathered: Gathered, end: End) -> Input
+        ensures { result ≡ content_as gathered end }
+    {
+        Input { gathered, end }
+    }
+
+    /// The records, in order.
+    pub fn records(&self) -> &[Raw062]
+        ensures { result.now ≡ self.now.records }
+    {
+        self.gathered.records.as_slice()
+    }
+
+    /// Whether nothing of the feed is refused and it ends behind a whole block.
+    pub fn is_intact(&self) -> bool
+        ensures { result ≡ intact self.now.refused self.now.end }
+    {
+        self.gathered.refused.is_empty() && matches!(self.end, End::Clean)
+    }
+
+    /// What a report says of the feed, where so many of its records are usable.
+    pub fn into_count(self, tracks: usize) -> FeedCount
+        ensures { result ≡ feed_count self tracks }
+    {
+        let Input { gathered, end } = self;
+        let Gathered {
+            blocks,
+            passed,
+            records,
+            mut refused,
+        } = gathered;
+        let refusals = refused.len() as u64;
+        refused.truncate(MOST_REFUSALS as usize);
+        FeedCount {
+            blocks,
+            passed,
+            records: records.len() as u64,
+            tracks: tracks as u64,
+            refused: Refusals::new(refused),
+            refusals,
+            end,
+        }
+    }
+}

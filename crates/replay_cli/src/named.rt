@@ -1,0 +1,137 @@
+//! What stands under a name: the site of a site file, and the content of a feed. What is opened is closed again,
+//! whatever came.
+ghost use Rattle.std.specs.Prelude.{◌≡◌, ◌≤◌, ◌⊎◌, false, All, Err, IfErr, IfOk, IsErrOf, Ok};
+ghost use Rattle.outside_io.specs.Faults.{Rose};
+ghost use Rattle.outside_io.specs.Names.{Lacks};
+ghost use Rattle.cat062_read.specs.Tracks.{IsPlaced};
+ghost use Rattle.site_params.specs.Ranges.{IsSite};
+ghost use Rattle.replay_cli.specs.Feeds.{ReadsNamed, TextOf};
+ghost use Rattle.replay_cli.specs.Stops.{IsReading, StopsNamed, StopsSite, fault_of, leaves_unread as unread, site_fault};
+
+use crate::content::Input;
+use crate::input::{Unread, read_text, read_whole};
+use crate::texts::FaultText;
+use crate::words::Name;
+use outside_io::{OpenFault, World};
+use site_params::{SITE_ROOM, Site, SiteFault, read_site};
+use std::alloc::Global;
+
+impl From<OpenFault> for Unread {
+    ghost use Rattle.replay_cli.specs.Stops.{GivesUnread};
+
+    ghost from_gives = { GivesUnread };
+
+    fn from(fault: OpenFault) -> Self {
+        match fault {
+            OpenFault::NoSuch | OpenFault::Failed => Unread::Unopened,
+            OpenFault::NoMemory => Unread::NoMemory,
+        }
+    }
+}
+
+impl Unread {
+    /// The fault of a run that read nothing of this name.
+    fn of(self, name: Name) -> FaultText
+        ensures { result ≡ fault_of self name }
+    {
+        match self {
+            Unread::Unopened => FaultText::CannotOpen(name),
+            Unread::Broken => FaultText::ReadFailed(name),
+            Unread::NoMemory => FaultText::NoMemory,
+        }
+    }
+}
+
+/// The text under a name, and at most so many octets of it.
+fn text_under<W: World>(
+    alloc: Global,
+    world: &mut W,
+    name: &str,
+    most: usize,
+) -> Result<Vec<u8>, Unread>
+    ensures told { IfOk result (λ text. TextOf (W.files world.old) name.now most text.items) }
+    ensures opened { IsErrOf result Unread.Unopened → Lacks (W.files world.old) name.now ⊎ Rose (W.faults world.old) (W.faults world.new) }
+    ensures failed { IsErrOf result Unread.Broken → Rose (W.faults world.old) (W.faults world.new) }
+    ensures lacking { Lacks (W.files world.old) name.now → IsErrOf result Unread.Unopened }
+
+    // What stays as it was.
+    ensures files { W.files world.new ≡ W.files world.old }
+    ensures closed { W.opened world.new ≡ W.opened world.old }
+    ensures kept { (IsErrOf result Unread.Unopened → ⊥) → (IsErrOf result Unread.Broken → ⊥) → W.faults world.new ≡ W.faults world.old }
+    ensures later { W.faults world.old ≤ W.faults world.new }
+{
+    let mut file = world.open(alloc, name)?;
+    let text = read_text(alloc, &mut file, most);
+    world.close(file);
+    text
+}
+
+/// The content of the feed under a name.
+pub fn feed_under<W: World>(alloc: Global, world: &mut W, name: &str) -> Result<Input, Unread>
+    ensures told { IfOk result (λ input. ReadsNamed (W.files world.old) name.now input) }
+    ensures placed { IfOk result (λ input. All IsPlaced input.records) }
+    ensures opened { IsErrOf result Unread.Unopened → Lacks (W.files world.old) name.now ⊎ Rose (W.faults world.old) (W.faults world.new) }
+    ensures failed { IsErrOf result Unread.Broken → Rose (W.faults world.old) (W.faults world.new) }
+    ensures lacking { Lacks (W.files world.old) name.now → IsErrOf result Unread.Unopened }
+
+    // What stays as it was.
+    ensures files { W.files world.new ≡ W.files world.old }
+    ensures closed { W.opened world.new ≡ W.opened world.old }
+    ensures kept { (IsErrOf result Unread.Unopened → ⊥) → (IsErrOf result Unread.Broken → ⊥) → W.faults world.new ≡ W.faults world.old }
+    ensures later { W.faults world.old ≤ W.faults world.new }
+{
+    let mut feed = world.open(alloc, name)?;
+    let input = read_whole(alloc, &mut feed);
+    world.close(feed);
+    input
+}
+
+/// The fault of a run whose site is refused.
+fn refused(fault: SiteFault) -> FaultText
+    ensures { result ≡ site_fault fault }
+{
+    match fault {
+        SiteFault::NoMemory => FaultText::NoMemory,
+        fault => FaultText::Site(fault),
+    }
+}
+
+/// The site that the file under a name sets.
+pub fn site_of<W: World>(alloc: Global, world: &mut W, name: Name) -> Result<Site, FaultText>
+    ensures site { IfOk result (λ site. IsReading (W.files world.old) name (Ok site)) }
+    ensures accepted { IfOk result IsSite }
+    ensures fault { IfErr result (StopsSite (W.files world.old) (W.faults world.old) (W.faults world.new) name) }
+
+    // What stays as it was.
+    ensures files { W.files world.new ≡ W.files world.old }
+    ensures closed { W.opened world.new ≡ W.opened world.old }
+    ensures kept { unread result ≡ false → W.faults world.new ≡ W.faults world.old }
+    ensures later { W.faults world.old ≤ W.faults world.new }
+{
+    let text = match text_under(alloc, world, name.as_str(), SITE_ROOM + 1) {
+        Ok(text) => text,
+        Err(unread) => return Err(unread.of(name)),
+    };
+    match read_site(alloc, &text) {
+        Ok(site) => Ok(site),
+        Err(fault) => Err(refused(fault)),
+    }
+}
+
+/// The content of the feed under a name.
+pub fn feed_of<W: World>(alloc: Global, world: &mut W, name: Name) -> Result<Input, FaultText>
+    ensures told { IfOk result (λ input. ReadsNamed (W.files world.old) name input) }
+    ensures placed { IfOk result (λ input. All IsPlaced input.records) }
+    ensures fault { IfErr result (StopsNamed (W.files world.old) (W.faults world.old) (W.faults world.new) name) }
+
+    // What stays as it was.
+    ensures files { W.files world.new ≡ W.files world.old }
+    ensures closed { W.opened world.new ≡ W.opened world.old }
+    ensures kept { unread result ≡ false → W.faults world.new ≡ W.faults world.old }
+    ensures later { W.faults world.old ≤ W.faults world.new }
+{
+    match feed_under(alloc, world, name.as_str()) {
+        Ok(input) => Ok(input),
+        Err(unread) => Err(unread.of(name)),
+    }
+}

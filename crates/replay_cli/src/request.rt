@@ -1,0 +1,30 @@
+//! What the command words ask to be replayed.
+ghost use Rattle.std.specs.Prelude.{◌≡◌, ◌⊎◌, None, Some, IfErr, IfOk};
+ghost use Rattle.replay_cli.specs.Found.{request as requested};
+ghost use Rattle.replay_cli.specs.Words.{texts};
+
+use crate::texts::FaultText;
+use crate::words::{Name, Names, Plan, WordsFault, read_words};
+use std::alloc::Global;
+
+/// The names of a site file and of feeds.
+#[derive(Debug, Drop)]
+pub struct Request {
+    pub site: Name,
+    pub feeds: Names,
+}
+
+/// What the words ask to be replayed. Other words are told as faulty ones.
+#[tactic(auto, unfolding(crate::specs::Found::request))]
+pub fn asked(alloc: Global, words: &[String]) -> Result<Request, FaultText>
+    ensures asked { IfOk result (λ r. requested (texts words.now) ≡ Some r) }
+    ensures fault { IfErr result (λ e. (e ≡ FaultText.NoMemory) ⊎ ((e ≡ FaultText.Usage) × (requested (texts words.now) ≡ None))) }
+{
+    match read_words(alloc, words) {
+        Ok(Plan::Replay { site, feeds }) => Ok(Request { site, feeds }),
+        Ok(Plan::Run { .. }) | Err(WordsFault::Usage | WordsFault::Feeds(_)) => {
+            Err(FaultText::Usage)
+        }
+        Err(WordsFault::NoMemory) => Err(FaultText::NoMemory),
+    }
+}

@@ -1,0 +1,156 @@
+//! The fault texts, and how one is told without memory.
+ghost use Rattle.outside_io.specs.Bytes.{AppendsWhole};
+ghost use Rattle.outside_io.specs.Faults.{HasCause};
+ghost use Rattle.std.specs.Prelude.{◌∷◌, [], codes};
+ghost use Rattle.std.specs.List.{concat};
+ghost use Rattle.replay_cli.specs.FaultTexts.{at_field, refused, site_text, text_of_fault};
+ghost use Rattle.replay_cli.specs.Pieces.{piece_text};
+ghost use Rattle.replay_cli.specs.Telling.{Tells};
+
+mod pieces;
+
+use crate::texts::pieces::{Piece, tell_pieces};
+use crate::words::Name;
+use outside_io::source::Failed;
+use outside_io::{Sink, write_whole};
+use site_params::{Field, SiteFault};
+
+/// What words without a plan are answered with.
+pub const USAGE: &str =
+    "usage: safetynets replay --site FILE FEED...\n       safetynets run --site FILE --workers N FEED...\n";
+
+/// A fault that ends a run, as it is told.
+#[derive(Debug, Drop)]
+pub enum FaultText {
+    /// Words without a plan.
+    Usage,
+    /// A site that is refused.
+    Site(SiteFault),
+    /// What the program doesn't do yet.
+    NotBuilt,
+    /// A name that doesn't open.
+    CannotOpen(Name),
+    /// A name of which a read failed.
+    ReadFailed(Name),
+    /// A write that failed.
+    WriteFailed,
+    /// Want of memory.
+    NoMemory,
+}
+
+/// Tells the text, as far as the sink takes it. It takes no memory.
+pub fn tell<K: Sink>(text: &FaultText, sink: &mut K)
+    ensures { Tells (K.taken sink.old) (K.taken sink.new) (K.faults sink.old) (K.faults sink.new) (text_of_fault text.now) }
+{
+    let _ = tell_fault(text, sink);
+}
+
+/// Writes the text of a fault.
+fn tell_fault<K: Sink>(text: &FaultText, sink: &mut K) -> Result<(), Failed>
+    ensures bytes { AppendsWhole (K.taken sink.old) (K.taken sink.new) result (text_of_fault text.now) }
+    ensures cause { HasCause (K.faults sink.old) (K.faults sink.new) result }
+{
+    match text {
+        FaultText::Usage => write_whole(sink, USAGE.as_bytes()),
+        FaultText::Site(fault) => tell_site(*fault, sink),
+        FaultText::NotBuilt => write_whole(sink, b"not built\n"),
+        FaultText::CannotOpen(name) => tell_named("cannot open ", name.as_str(), sink),
+        FaultText::ReadFailed(name) => tell_named("read failed: ", name.as_str(), sink),
+        FaultText::WriteFailed => write_whole(sink, b"write failed\n"),
+        FaultText::NoMemory => write_whole(sink, b"out of memory\n"),
+    }
+}
+
+/// Writes words and a name behind them.
+fn tell_named<'a, K: Sink>(words: &'a str, name: &'a str, sink: &mut K) -> Result<(), Failed>
+    ensures bytes { AppendsWhole (K.taken sink.old) (K.taken sink.new) result (concat (words.now ∷ name.now ∷ codes "\n" ∷ [])) }
+    ensures cause { HasCause (K.faults sink.old) (K.faults sink.new) result }
+{
+    tell_pieces(
+        &[Piece::Words(words), Piece::Words(name), Piece::Words("\n")],
+        sink,
+    )
+}
+
+/// Writes the text of a site's fault.
+fn tell_site<K: Sink>(fault: SiteFault, sink: &mut K) -> Result<(), Failed>
+    ensures bytes { AppendsWhole (K.taken sink.old) (K.taken sink.new) result (site_text fault) }
+    ensures cause { HasCause (K.faults sink.old) (K.faults sink.new) result }
+{
+    match fault {
+        SiteFault::Syntax => tell_refused(1, sink),
+        SiteFault::Missing(field) => tell_field(2, field, sink),
+        SiteFault::Kind(field) => tell_field(3, field, sink),
+        SiteFault::Range(field, value) => {
+            tell_field_with(4, field, " value ", Piece::Signed(value), sink)
+        }
+        SiteFault::Twice(field, first) => {
+            tell_field_with(5, field, " first ", Piece::Number(u64::from(first)), sink)
+        }
+        SiteFault::NoSuchName(field) => tell_field(6, field, sink),
+        SiteFault::Long => tell_refused(7, sink),
+        SiteFault::NotBuilt(field) => tell_field(8, field, sink),
+        SiteFault::NoMemory => write_whole(sink, b"out of memory\n"),
+    }
+}
+
+/// Writes the number of a site's fault.
+fn tell_refused<K: Sink>(number: u64, sink: &mut K) -> Result<(), Failed>
+    ensures bytes { AppendsWhole (K.taken sink.old) (K.taken sink.new) result (refused number (codes "\n" ∷ [])) }
+    ensures cause { HasCause (K.faults sink.old) (K.faults sink.new) result }
+{
+    tell_pieces(
+        &[
+            Piece::Words("site refused: "),
+            Piece::Number(number),
+            Piece::Words("\n"),
+        ],
+        sink,
+    )
+}
+
+/// Writes the number of a site's fault, and its field.
+fn tell_field<K: Sink>(number: u64, field: Field, sink: &mut K) -> Result<(), Failed>
+    ensures bytes { AppendsWhole (K.taken sink.old) (K.taken sink.new) result (refused number (at_field field (codes "\n" ∷ []))) }
+    ensures cause { HasCause (K.faults sink.old) (K.faults sink.new) result }
+{
+    tell_pieces(
+        &[
+            Piece::Words("site refused: "),
+            Piece::Number(number),
+            Piece::Words(" field "),
+            Piece::Number(u64::from(field.number)),
+            Piece::Words(" entry "),
+            Piece::Number(u64::from(field.entry)),
+            Piece::Words("\n"),
+        ],
+        sink,
+    )
+}
+
+/// Writes the number of a site's fault, its field, and what more is told of it.
+fn tell_field_with<'a, K: Sink>(
+    number: u64,
+    field: Field,
+    words: &'a str,
+    more: Piece<'a>,
+    sink: &mut K,
+) -> Result<(), Failed>
+    ensures bytes { AppendsWhole (K.taken sink.old) (K.taken sink.new) result (refused number (at_field field (words.now ∷ piece_text more.entry ∷ codes "\n" ∷ []))) }
+    ensures cause { HasCause (K.faults sink.old) (K.faults sink.new) result }
+{
+    tell_pieces(
+        &[
+            Piece::Words("site refused: "),
+            Piece::Number(number),
+            Piece::Words(" field "),
+            Piece::Number(u64::from(field.number)),
+            Piece::Words(" entry "),
+            Piece::Number(u64::from(field.entry)),
+            Piece::Words(words),
+            more,
+            Piece::Words("\n"),
+        ],
+        sink,
+    )
+}

@@ -1,0 +1,4 @@
+pub mod Keys
+pub mod Motions
+pub mod Ranks
+pub mod Tracks
