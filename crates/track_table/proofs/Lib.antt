@@ -1,0 +1,9 @@
+mod Feeds
+mod Filters
+mod Freezes
+mod Highest
+mod Newest
+mod Orders
+mod Proper
+mod Puts
+mod TableRows

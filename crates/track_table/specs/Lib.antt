@@ -1,0 +1,6 @@
+pub mod Held
+pub mod Kept
+pub mod Proper
+pub mod Stamps
+pub mod Tables
+pub mod Times

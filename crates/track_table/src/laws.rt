@@ -1,0 +1,62 @@
+//! Laws of the definitions: each is the contract of a function that does nothing.
+ghost use Rattle.std.specs.Prelude.{◌≡◌, ℕ, ◌≤◌, List, [], ◌∷◌, ◌++◌, length, map, Some, None, ℤ, pos, ◌≤ℤ◌, ◌<ℤ◌, ◌+ℤ◌, ◌*ℤ◌, All, Contains, IsTrue};
+ghost use Rattle.std.specs.List.Sorted.{IsNonDecreasingBy, IsStrictlySortedBy};
+ghost use Rattle.track_motion.specs.declared.rank.Stamped.{Stamped};
+ghost use Rattle.track_motion.specs.declared.track.Track.{Track};
+ghost use Rattle.track_motion.specs.declared.motion.TheConstants.{LONGEST_AGE};
+ghost use Rattle.track_motion.specs.Keys.{key_cmp};
+ghost use Rattle.track_table.specs.Proper.{IsProper, IsTold, frozen_of};
+ghost use Rattle.track_table.specs.Stamps.{clock_after, clock_of, stamp_of, stamps_of};
+ghost use Rattle.track_table.specs.Tables.{IsHighest, IsRowOf, due, highest, is_row, of_key, table};
+ghost use Rattle.track_table.specs.Times.{IsNear, at_near, cycle_time, half_day};
+
+/// A time of day names one time near the present one.
+pub fn one_near_time()
+    ensures near { (present : ℤ) (time : ℕ) → IsNear present time (at_near present time) }
+    ensures only { (present : ℤ) (time : ℕ) (at : ℤ) → IsNear present time at → at ≡ at_near present time }
+{}
+
+/// A cycle ends no later than those after it.
+pub fn cycles_in_order()
+    ensures { (start period : ℤ) (k l : ℕ) → pos 0 ≤ℤ period → k ≤ l → cycle_time start period k ≤ℤ cycle_time start period l }
+{}
+
+/// The stamps of a feed come one after the other, each by the clock after those before it.
+pub fn stamps_one_by_one()
+    ensures stamps { (start period : ℤ) (feed : ℕ) (tracks : List Track) (track : Track)
+        → stamps_of start period feed (tracks ++ track ∷ []) ≡ stamps_of start period feed tracks ++ stamp_of (clock_of start period tracks) feed (length tracks) track ∷ [] }
+    ensures clock { (start period : ℤ) (tracks : List Track) (track : Track) → clock_of start period (tracks ++ track ∷ []) ≡ clock_after (clock_of start period tracks) track }
+{}
+
+/// A feed's clock never falls back, and each track moves it on by half a day at most.
+pub fn clock_in_reach()
+    ensures low { (start period : ℤ) (tracks : List Track) → start ≤ℤ (clock_of start period tracks).latest }
+    ensures high { (start period : ℤ) (tracks : List Track) → (clock_of start period tracks).latest ≤ℤ (start +ℤ pos (length tracks) *ℤ half_day) }
+{}
+
+/// The windows of a feed never fall, and each record is told before its window ends.
+pub fn windows_of_a_feed()
+    ensures rising { (start period : ℤ) (feed : ℕ) (tracks : List Track) → pos 1 ≤ℤ period → IsNonDecreasingBy (λ s. s.window) (stamps_of start period feed tracks) }
+    ensures inside { (start period : ℤ) (feed : ℕ) (tracks : List Track) → pos 1 ≤ℤ period → All (λ s. s.at <ℤ cycle_time start period s.window) (stamps_of start period feed tracks) }
+{}
+
+/// The highest of records is one of them that none outranks; there is one unless there are no records.
+pub fn highest_is_one()
+    ensures one { (records : List Stamped) (r : Stamped) → highest records ≡ Some r → IsHighest records r }
+    ensures none { (records : List Stamped) → highest records ≡ None → records ≡ [] }
+{}
+
+/// A table has its rows in the order of their keys; each is a record that was told in time and that no other
+/// of its track outranks, and each such record is a row.
+pub fn rows_of_a_table()
+    ensures rising { (start period timeout : ℤ) (k : ℕ) (records : List Stamped) → IsStrictlySortedBy key_cmp (map (λ r. r.track.key) (table start period timeout k records)) }
+    ensures each { (start period timeout : ℤ) (k : ℕ) (records : List Stamped) → All (IsRowOf start period timeout k records) (table start period timeout k records) }
+    ensures all { (start period timeout : ℤ) (k : ℕ) (records : List Stamped) (r : Stamped)
+        → highest (of_key r.track.key (due k records)) ≡ Some r → IsTrue (is_row (cycle_time start period k) timeout r) → Contains (table start period timeout k records) r }
+{}
+
+/// A table of records as feeds tell them is proper, where they are rows for no longer than tracks are moved on.
+pub fn tables_are_proper()
+    ensures { (start period timeout : ℤ) (k : ℕ) (records : List Stamped)
+        → pos 0 ≤ℤ period → timeout ≤ℤ pos LONGEST_AGE → All (IsTold start period) records → IsProper (frozen_of start period timeout k records) }
+{}

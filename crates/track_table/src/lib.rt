@@ -1,0 +1,17 @@
+//! When the tracks of each feed were told, and the table of each cycle over all feeds.
+#![tactic(auto)]
+
+mod clock;
+pub mod laws;
+pub mod rows;
+pub mod table;
+
+pub use clock::FeedClock;
+pub use rows::Rows;
+pub use table::{Frozen, Put, Table};
+
+/// Want of memory.
+pub type NoMemory = std::alloc::AllocError;
+
+#[cfg(test)]
+mod tests;

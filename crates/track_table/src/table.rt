@@ -1,0 +1,171 @@
+//! The table of tracks: what is kept of all records put, and the rows of a cycle.
+ghost use Rattle.std.specs.Prelude.{◌≡◌, ◌≢◌, [], ◌∷◌, ◌++◌, List, None, Some, IfOk, OnOk, OnErr, filter};
+ghost use Rattle.std.specs.BTreeMap.{get, values};
+ghost use Rattle.track_motion.specs.declared.rank.Stamped.{Stamped};
+ghost use Rattle.track_motion.specs.Keys.{key_cmp};
+ghost use Rattle.track_table.specs.Kept.{AreDue, CanFreeze, StandsFor, answer_to, counting, counts, unless_outranked};
+ghost use Rattle.track_table.specs.Tables.{is_recent, is_row, table};
+ghost use Rattle.track_table.specs.Times.{IsTime, cycle_time};
+
+use crate::NoMemory;
+use crate::rows::Rows;
+use std::alloc::Global;
+use std::collections::BTreeMap;
+use std::marker::Model;
+use track_motion::{Stamped, TrackKey, rank_less};
+
+/// What becomes of a record that is put into a table.
+#[derive(Clone, Copy, Debug, PartialEq, Eq)]
+pub enum Put {
+    /// It outranks each record of its track that still counts.
+    Kept,
+    /// This record of its track counts instead.
+    Superseded(Stamped),
+}
+
+/// The table of a cycle.
+#[derive(Debug, Drop)]
+pub struct Frozen {
+    pub cycle: u64,
+    /// The cycle's time, to which its rows are moved on, in ticks of 1/128 s.
+    pub time: i64,
+    pub rows: Rows,
+}
+
+/// All records put so far, of which it keeps one a track, and none that was told longer than the timeout
+/// before the last table's time.
+#[derive(Drop)]
+pub struct Table {
+    start: i64,
+    period: i64,
+    timeout: i64,
+    frozen: Option<i64>,
+    kept: BTreeMap<TrackKey, Stamped>,
+    alloc: Global,
+}
+
+impl Model for Table {
+    ghost use Rattle.track_table.specs.Held.{Held};
+
+    ghost Value = { Held };
+
+    ghost view = { λ t. record { start = t.start; period = t.period; timeout = t.timeout; frozen = t.frozen; kept = t.kept.entries } };
+}
+
+impl Table {
+    /// A table without records. The cycles begin at `start` and are `period` long; a record stays a row
+    /// for `timeout` after it was told. All are in ticks of 1/128 s.
+    pub fn new(alloc: Global, start: i64, period: i64, timeout: i64) -> Table
+        ensures held { result ≡ record { start = start; period = period; timeout = timeout; frozen = None; kept = [] } }
+        ensures stands { StandsFor result [] }
+    {
+        Table {
+            start,
+            period,
+            timeout,
+            frozen: None,
+            kept: BTreeMap::new(alloc),
+            alloc,
+        }
+    }
+
+    /// Puts a record beside the others. It takes memory for the first record of a track that counts.
+    pub fn put(&mut self, s: Stamped) -> Result<Put, NoMemory>
+        ensures answer { IfOk result (λ put. (puts : List Stamped) → StandsFor self.old puts → put ≡ answer_to self.old.timeout self.old.frozen puts s) }
+        ensures stands { OnOk result ((puts : List Stamped) → StandsFor self.old puts → StandsFor self.new (puts ++ s ∷ [])) }
+        ensures others { OnOk result (self.new ≡ record self.old { kept = self.new.kept }) }
+        ensures memory { OnErr result ((puts : List Stamped) → StandsFor self.old puts → counting self.old.timeout self.old.frozen s.track.key puts ≡ []) }
+        ensures err { OnErr result (self.new ≡ self.old) }
+    {
+        if let Some(r) = superseding(&self.kept, &s) {
+            return Ok(Put::Superseded(r));
+        }
+        if counts(&s, self.timeout, self.frozen) {
+            self.kept.insert(s.track.key, s)?;
+        }
+        Ok(Put::Kept)
+    }
+
+    /// Takes the table of a cycle, and lets go what has timed out by then. It takes memory for the rows.
+    pub fn freeze(&mut self, k: u64) -> Result<Frozen, NoMemory>
+        requires { CanFreeze self.old k }
+        ensures cycle { IfOk result (λ frozen. frozen.cycle ≡ k) }
+        ensures time { IfOk result (λ frozen. frozen.time ≡ cycle_time self.old.start self.old.period k) }
+        ensures rows { IfOk result (λ frozen. (puts : List Stamped) → StandsFor self.old puts → AreDue k puts → frozen.rows ≡ table self.old.start self.old.period self.old.timeout k puts) }
+        ensures stands { OnOk result ((puts : List Stamped) → StandsFor self.old puts → StandsFor self.new puts) }
+        ensures others { OnOk result (self.new ≡ record self.old { frozen = Some (cycle_time self.old.start self.old.period k); kept = self.new.kept }) }
+        ensures memory { OnErr result ((puts : List Stamped) → StandsFor self.old puts → AreDue k puts → table self.old.start self.old.period self.old.timeout k puts ≢ []) }
+        ensures err { OnErr result (self.new ≡ self.old) }
+    {
+        let time = cycle_time(self.start, self.period, k);
+        let rows = rows_at(self.alloc, &self.kept, time, self.timeout)?;
+        keep_recent(&mut self.kept, time, self.timeout);
+        self.frozen = Some(time);
+        Ok(Frozen {
+            cycle: k,
+            time,
+            rows,
+        })
+    }
+}
+
+/// When a cycle ends.
+fn cycle_time(start: i64, period: i64, k: u64) -> i64
+    requires { IsTime (cycle_time start period k) }
+    ensures { result ≡ cycle_time start period k }
+{
+    (i128::from(start) + (i128::from(k) + 1) * i128::from(period)) as i64
+}
+
+/// A record was told at most the timeout before a time.
+fn is_recent(row: &Stamped, time: i64, timeout: i64) -> bool
+    ensures { result ≡ is_recent time timeout row.now }
+{
+    i128::from(time) - i128::from(row.at) <= i128::from(timeout)
+}
+
+/// The record kept for the same track, unless it is outranked.
+fn superseding(kept: &BTreeMap<TrackKey, Stamped>, s: &Stamped) -> Option<Stamped>
+    ensures { result ≡ unless_outranked s.now (get key_cmp kept.now s.now.track.key) }
+{
+    match kept.get(&s.track.key) {
+        Some(r) if !rank_less(r, s) => Some(*r),
+        _ => None,
+    }
+}
+
+/// A record counts: no table was taken yet, or it was told at most the timeout before the last one's time.
+fn counts(s: &Stamped, timeout: i64, frozen: Option<i64>) -> bool
+    ensures { result ≡ counts timeout frozen s.now }
+{
+    match frozen {
+        None => true,
+        Some(time) => is_recent(s, time, timeout),
+    }
+}
+
+/// Lets go what was told longer than the timeout before a time.
+fn keep_recent(kept: &mut BTreeMap<TrackKey, Stamped>, time: i64, timeout: i64)
+    ensures { kept.new.entries ≡ filter (λ entry. is_recent time timeout entry.1) kept.old.entries }
+{
+    kept.retain(|_, row| is_recent(row, time, timeout));
+}
+
+/// The rows at a time.
+fn rows_at(
+    alloc: Global,
+    kept: &BTreeMap<TrackKey, Stamped>,
+    time: i64,
+    timeout: i64,
+) -> Result<Rows, NoMemory>
+    ensures rows { IfOk result (λ rows. rows ≡ filter (is_row time timeout) (values kept.now)) }
+    ensures memory { OnErr result (filter (is_row time timeout) (values kept.now) ≢ []) }
+{
+    let mut rows = Vec::new(alloc);
+    for row in kept.values() {
+        if !row.track.ended && is_recent(row, time, timeout) {
+            rows.push(*row)?;
+        }
+    }
+    Ok(Rows::new(rows))
+}
