@@ -1,0 +1,5 @@
+use Rattle.stca_fine.proofs.Hits.{hit_in_words}
+use Rattle.stca_fine.proofs.laws.hit_where_a_filter_holds.Goals as goal
+
+pub returns : goal.returns
+returns c = λ a b set. hit_in_words a b set
