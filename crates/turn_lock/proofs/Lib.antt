@@ -1,0 +1,9 @@
+pub mod Beginnings
+pub mod Entries
+pub mod Views
+pub mod Keeps
+pub mod Ends
+pub mod Calls
+pub mod Longer
+pub mod Joins
+pub mod SeatSums
