@@ -1,5 +1,5 @@
 -- What the top call says, from how the run ended and from what was written of it.
-use Rattle.std.proofs.Common.{◌≡◌, ◌≢◌, ◌⊎◌, ◌∙◌, inl, inr, refl, sym, ap, ℕ, Bool, true, false, List, [], ◌∷◌, length, Option, None, Some, Result, Ok, Err, Contains, rules, arith}
+use Rattle.std.proofs.Common.{◌≡◌, ◌≢◌, ◌⊎◌, ◌∙◌, inl, inr, refl, sym, ap, ℕ, Bool, true, false, List, length, Option, None, Some, Result, Ok, Err, rules}
 use Rattle.std.proofs.Math.Seq.{take-length}
 use Rattle.std.proofs.lemmas.List.{append-nil}
 use Rattle.std.specs.Io.KnownBytes.{Appends}
@@ -7,16 +7,15 @@ use Rattle.outside_io.specs.Bytes.{AppendsPrefix, AppendsWhole}
 use Rattle.outside_io.specs.Faults.{Rose}
 use Rattle.site_params.specs.declared.fault.SiteFault.{SiteFault}
 use Rattle.site_params.specs.declared.site.Site.{Site}
-use Rattle.replay_cli.specs.Content.{content, feed_is_intact}
+use Rattle.replay_cli.specs.Content.{feeds_are_intact}
 use Rattle.replay_cli.specs.Counts.{report_of}
-use Rattle.replay_cli.specs.Ends.{Ran, Ends, Finishes, WritesReport, Misses, Completes, Breaks, RefusesSite, IsNotBuilt, IsAsked, StopsBy, status_done, status_of}
+use Rattle.replay_cli.specs.Ends.{Ran, Ends, Finishes, Completes, Breaks, RefusesSite, IsNotBuilt, IsAsked, StopsBy, status_done, status_of}
 use Rattle.replay_cli.specs.FaultTexts.{site_text, text_of_fault, write_failed_text}
-use Rattle.replay_cli.specs.Found.{Found, OtherWords, Untold, Lacking, Refused, Several, Given, IfGiven, IsLacking}
-use Rattle.replay_cli.specs.Outcomes.{IsDone, IsDue, IsReport, IsRefusal, IsUnread, Judges, JudgesFeed, Reports, Serves, Sunk, Takes}
-use Rattle.replay_cli.specs.Reference.{reference, FeedIsSupported}
+use Rattle.replay_cli.specs.Found.{Found, OtherWords, Untold, Lacking, Refused, Given, IfGiven, IsLacking}
+use Rattle.replay_cli.specs.Outcomes.{IsDone, IsDue, IsReport, IsRefusal, Judges, JudgesFeeds, Reports, Serves, Sunk}
+use Rattle.replay_cli.specs.Reference.{reference, FeedsAreSupported}
 use Rattle.replay_cli.specs.ReportText.{text_of}
 use Rattle.replay_cli.specs.Stops.{stop_status}
-use Rattle.replay_cli.specs.Works.{IsWork}
 use Rattle.replay_cli.specs.declared.texts.FaultText.{FaultText}
 use Rattle.replay_cli.specs.declared.texts.FaultText.TheVariants as texts
 use Rattle.replay_cli.specs.declared.work.Work.{Work}
@@ -78,25 +77,23 @@ statuses_of (Err stopped) n report finishes = rw finishes.0 (let one = stop_stat
 
 -- ---- what was found judges the status
 
-judge_feed : (site : Site) (feed : List ℕ) (b : Bool) (n : ℕ) → FeedIsSupported site feed → b ≡ feed_is_intact feed → n ≡ status_done b → JudgesFeed site feed n
-judge_feed site feed true n supported intact is = record { words = λ e. cc; refused = λ e. absurd (cc); intact = λ e. (supported, sym intact); damaged = λ e. absurd (cc); cut_off = λ e. supported }
-judge_feed site feed false n supported intact is = record { words = λ e. cc; refused = λ e. absurd (cc); intact = λ e. absurd (cc); damaged = λ e. (supported, sym intact); cut_off = λ e. supported }
+judge_feeds : (site : Site) (feeds : List (List ℕ)) (b : Bool) (n : ℕ) → FeedsAreSupported site feeds → b ≡ feeds_are_intact feeds → n ≡ status_done b → JudgesFeeds site feeds n
+judge_feeds site feeds true n supported intact is = record { words = λ e. cc; refused = λ e. absurd (cc); intact = λ e. (supported, sym intact); damaged = λ e. absurd (cc); cut_off = λ e. supported }
+judge_feeds site feeds false n supported intact is = record { words = λ e. cc; refused = λ e. absurd (cc); intact = λ e. absurd (cc); damaged = λ e. (supported, sym intact); cut_off = λ e. supported }
 
 judge_done : (f : Found) (out : Sunk) (work : Work) (n : ℕ) → Completes f out work → n ≡ status_done work.is_intact → Judges f n
 judge_done OtherWords out work n completes is = absurd completes
 judge_done Untold out work n completes is = λ two. elim (done_statuses work.is_intact) [ inl zero ↦ absurd (cc) | inr seven ↦ absurd (cc) ]
 judge_done (Lacking name) out work n completes is = absurd completes
 judge_done (Refused fault) out work n completes is = absurd completes
-judge_done Several out work n completes is = absurd completes
-judge_done (Given site feed) out work n completes is = judge_feed site feed work.is_intact n completes.0.supported completes.0.intact is
+judge_done (Given site feeds) out work n completes is = judge_feeds site feeds work.is_intact n completes.0.supported completes.0.intact is
 
 judge_missed : (f : Found) (out : Sunk) (work : Work) → Completes f out work → Judges f 5
 judge_missed OtherWords out work completes = absurd completes
 judge_missed Untold out work completes = λ two. cc
 judge_missed (Lacking name) out work completes = absurd completes
 judge_missed (Refused fault) out work completes = absurd completes
-judge_missed Several out work completes = absurd completes
-judge_missed (Given site feed) out work completes =
+judge_missed (Given site feeds) out work completes =
     record { words = λ e. cc; refused = λ e. absurd (cc); intact = λ e. absurd (cc); damaged = λ e. absurd (cc); cut_off = λ e. completes.0.supported }
 
 judge_usage : (f : Found) → f ≡ OtherWords → Judges f 2
@@ -107,16 +104,14 @@ judge_site OtherWords fault refuses = absurd refuses
 judge_site Untold fault refuses = λ two. cc
 judge_site (Lacking name) fault refuses = absurd refuses
 judge_site (Refused first) fault refuses = inl refl
-judge_site Several fault refuses = absurd refuses
-judge_site (Given site feed) fault refuses = absurd refuses
+judge_site (Given site feeds) fault refuses = absurd refuses
 
 judge_not_built : (f : Found) → IsNotBuilt f → Judges f 3
 judge_not_built OtherWords not_built = absurd not_built
 judge_not_built Untold not_built = λ two. cc
 judge_not_built (Lacking name) not_built = absurd not_built
 judge_not_built (Refused first) not_built = absurd not_built
-judge_not_built Several not_built = inl refl
-judge_not_built (Given site feed) not_built =
+judge_not_built (Given site feeds) not_built =
     record { words = λ e. cc; refused = λ e. not_built; intact = λ e. absurd (cc); damaged = λ e. absurd (cc); cut_off = λ e. absurd (cc) }
 
 judge_unread : (f : Found) → IsAsked f → Judges f 4
@@ -124,8 +119,7 @@ judge_unread OtherWords asked = absurd asked
 judge_unread Untold asked = λ two. cc
 judge_unread (Lacking name) asked = inl refl
 judge_unread (Refused first) asked = inr (inl refl)
-judge_unread Several asked = inr (inl refl)
-judge_unread (Given site feed) asked =
+judge_unread (Given site feeds) asked =
     record { words = λ e. cc; refused = λ e. absurd (cc); intact = λ e. absurd (cc); damaged = λ e. absurd (cc); cut_off = λ e. absurd (cc) }
 
 judge_broken : (f : Found) (out : Sunk) → Breaks f out → Judges f 5
@@ -133,8 +127,7 @@ judge_broken OtherWords out breaks = absurd breaks
 judge_broken Untold out breaks = λ two. cc
 judge_broken (Lacking name) out breaks = absurd breaks
 judge_broken (Refused first) out breaks = absurd breaks
-judge_broken Several out breaks = absurd breaks
-judge_broken (Given site feed) out breaks =
+judge_broken (Given site feeds) out breaks =
     record { words = λ e. cc; refused = λ e. absurd (cc); intact = λ e. absurd (cc); damaged = λ e. absurd (cc); cut_off = λ e. breaks.0 }
 
 judge_memory : (f : Found) → Judges f 6
@@ -142,8 +135,7 @@ judge_memory OtherWords = inr refl
 judge_memory Untold = λ two. cc
 judge_memory (Lacking name) = inr refl
 judge_memory (Refused first) = inr (inr refl)
-judge_memory Several = inr (inr refl)
-judge_memory (Given site feed) =
+judge_memory (Given site feeds) =
     record { words = λ e. cc; refused = λ e. absurd (cc); intact = λ e. absurd (cc); damaged = λ e. absurd (cc); cut_off = λ e. absurd (cc) }
 
 judged_by : (r : Ran) (e : FaultText) → StopsBy e r → Judges r.found (stop_status e)
@@ -167,24 +159,21 @@ serve_done OtherWords out work n completes = tt
 serve_done Untold out work n completes = tt
 serve_done (Lacking name) out work n completes = tt
 serve_done (Refused fault) out work n completes = tt
-serve_done Several out work n completes = tt
-serve_done (Given site feed) out work n completes = λ supported. record { prefix = whole_is_prefix out.before out.after (reference site feed) completes.1; done = λ d. completes.1; unbroken = λ e kept. completes.1 }
+serve_done (Given site feeds) out work n completes = λ supported. record { prefix = whole_is_prefix out.before out.after (reference site feeds) completes.1; done = λ d. completes.1; unbroken = λ e kept. completes.1 }
 
 serve_unused : (f : Found) (out : Sunk) (n : ℕ) → (IsDone n → ⊥) → n ≢ 5 → out.after ≡ out.before → IfGiven f (Serves n out)
 serve_unused OtherWords out n other uncut same = tt
 serve_unused Untold out n other uncut same = tt
 serve_unused (Lacking name) out n other uncut same = tt
 serve_unused (Refused fault) out n other uncut same = tt
-serve_unused Several out n other uncut same = tt
-serve_unused (Given site feed) out n other uncut same = λ supported. record { prefix = nothing_is_prefix out.before out.after (reference site feed) same; done = λ d. absurd (other d); unbroken = λ e kept. absurd (uncut e) }
+serve_unused (Given site feeds) out n other uncut same = λ supported. record { prefix = nothing_is_prefix out.before out.after (reference site feeds) same; done = λ d. absurd (other d); unbroken = λ e kept. absurd (uncut e) }
 
 serve_broken : (f : Found) (out : Sunk) → Rose out.faults_before out.faults_after → Breaks f out → IfGiven f (Serves 5 out)
 serve_broken OtherWords out rose breaks = tt
 serve_broken Untold out rose breaks = tt
 serve_broken (Lacking name) out rose breaks = tt
 serve_broken (Refused fault) out rose breaks = tt
-serve_broken Several out rose breaks = tt
-serve_broken (Given site feed) out rose breaks = λ supported. record { prefix = breaks.1; done = λ d. absurd (elim d [ inl zero ↦ cc | inr seven ↦ cc ]); unbroken = λ e kept. absurd (kept rose) }
+serve_broken (Given site feeds) out rose breaks = λ supported. record { prefix = breaks.1; done = λ d. absurd (elim d [ inl zero ↦ cc | inr seven ↦ cc ]); unbroken = λ e kept. absurd (kept rose) }
 
 -- a run that stopped before the alerts were written left `out` as it was
 abbrev Unused : Ran → ℕ → Type 0
@@ -258,32 +247,28 @@ report_done OtherWords out work completes = absurd completes
 report_done Untold out work completes = completes
 report_done (Lacking name) out work completes = absurd completes
 report_done (Refused fault) out work completes = absurd completes
-report_done Several out work completes = absurd completes
-report_done (Given site feed) out work completes = completes.0.report
+report_done (Given site feeds) out work completes = completes.0.report
 
 some_report : (f : Found) (out : Sunk) → Breaks f out → (report : List ℕ) × IsReport f report
 some_report OtherWords out breaks = absurd breaks
 some_report Untold out breaks = breaks
 some_report (Lacking name) out breaks = absurd breaks
 some_report (Refused fault) out breaks = absurd breaks
-some_report Several out breaks = absurd breaks
-some_report (Given site feed) out breaks = (text_of (report_of site feed), refl)
+some_report (Given site feeds) out breaks = (text_of (report_of site feeds), refl)
 
 refusal_of_site : (f : Found) (fault : SiteFault) → RefusesSite f fault → IsRefusal f (site_text fault)
 refusal_of_site OtherWords fault refuses = absurd refuses
 refusal_of_site Untold fault refuses = inr (fault, refl)
 refusal_of_site (Lacking name) fault refuses = absurd refuses
 refusal_of_site (Refused first) fault refuses = ap site_text refuses
-refusal_of_site Several fault refuses = absurd refuses
-refusal_of_site (Given site feed) fault refuses = absurd refuses
+refusal_of_site (Given site feeds) fault refuses = absurd refuses
 
 refusal_of_form : (f : Found) → IsNotBuilt f → IsRefusal f (text_of_fault texts.NotBuilt)
 refusal_of_form OtherWords not_built = absurd not_built
 refusal_of_form Untold not_built = inl refl
 refusal_of_form (Lacking name) not_built = absurd not_built
 refusal_of_form (Refused first) not_built = absurd not_built
-refusal_of_form Several not_built = refl
-refusal_of_form (Given site feed) not_built = refl
+refusal_of_form (Given site feeds) not_built = refl
 
 not_done_at : (k : ℕ) → k ≢ 0 → k ≢ 7 → IsDone k → ⊥
 not_done_at k not_intact not_damaged done = elim done [ inl zero ↦ not_intact zero | inr seven ↦ not_damaged seven ]

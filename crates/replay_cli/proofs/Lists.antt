@@ -1,7 +1,7 @@
 -- One more element of a list that a loop goes over.
-use Rattle.std.proofs.Common.{◌≡◌, ℕ, ◌+◌, ◌<◌, List, [], ◌∷◌, ◌++◌, length, take, drop, get_or, Option, Some, None, ap, sym, ◌∙◌, map, arith, suc}
+use Rattle.std.proofs.Common.{◌≡◌, ℕ, ◌+◌, ◌<◌, List, [], ◌∷◌, ◌++◌, length, take, drop, get_or, Option, Some, None, ap, sym, ◌∙◌, arith, suc}
 use Rattle.std.specs.List.{filter_map, AllByRecursion, enumerate_from}
-use Rattle.std.proofs.lemmas.List.{take_more, take-append-drop, drop_more, append-nil, map-append, length-take}
+use Rattle.std.proofs.lemmas.List.{take_more, take-append-drop, drop_more, append-nil, length-take}
 use Rattle.std.proofs.lemmas.List.Elements.{filter_map-append}
 
 pub found_more : {X Y : Type 0} (f : X → Option Y) (xs : List X) (i : ℕ) (x : X) (y : Y) → i < length xs → f (get_or xs i x) ≡ Some y → filter_map f (take (i + 1) xs) ≡ filter_map f (take i xs) ++ y ∷ []
@@ -29,19 +29,18 @@ same_number n = omega arith
 next_number : (n m : ℕ) → n + 1 + m ≡ n + suc m
 next_number n m = omega arith
 
--- the elements with their numbers, one after another
-pub enumerate_push : {X : Type 0} (n : ℕ) (xs : List X) (x : X) → enumerate_from n (xs ++ x ∷ []) ≡ enumerate_from n xs ++ (n + length xs, x) ∷ []
-enumerate_push n [] x = ap (λ m. (m, x) ∷ []) (same_number n)
-enumerate_push n (y ∷ ys) x = ap (λ es. (n, y) ∷ es) (enumerate_push (n + 1) ys x ∙ ap (λ m. enumerate_from (n + 1) ys ++ (m, x) ∷ []) (next_number n (length ys)))
+-- the elements with their numbers, those of a second list after those of the first
+pub enumerate_append : {X : Type 0} (n : ℕ) (xs ys : List X) → enumerate_from n (xs ++ ys) ≡ enumerate_from n xs ++ enumerate_from (n + length xs) ys
+enumerate_append n [] ys = ap (λ m. enumerate_from m ys) (same_number n)
+enumerate_append n (x ∷ xs) ys = ap (λ es. (n, x) ∷ es) (enumerate_append (n + 1) xs ys ∙ ap (λ m. enumerate_from (n + 1) xs ++ enumerate_from m ys) (next_number n (length xs)))
 
 length_take_below : {X : Type 0} (i : ℕ) (xs : List X) → i < length xs → length (take i xs) ≡ i
 length_take_below i xs before = simp length-take (omega arith)
 
--- a function of the elements with their numbers, at one more element
-pub enumerated_more : {X Y : Type 0} (f : ℕ × X → Y) (xs : List X) (i : ℕ) (x : X) → i < length xs → map f (enumerate_from 0 (take (i + 1) xs)) ≡ map f (enumerate_from 0 (take i xs)) ++ f (i, get_or xs i x) ∷ []
-enumerated_more f xs i x before =
+-- at one more element
+pub numbered_more : {X : Type 0} (xs : List X) (i : ℕ) (x : X) → i < length xs → enumerate_from 0 (take (i + 1) xs) ≡ enumerate_from 0 (take i xs) ++ (i, get_or xs i x) ∷ []
+numbered_more xs i x before =
     let long : length (take i xs) ≡ i = length_take_below i xs before in
-    ap (λ l. map f (enumerate_from 0 l)) (take_more xs i x before)
-    ∙ ap (map f) (enumerate_push 0 (take i xs) (get_or xs i x))
-    ∙ map-append f (enumerate_from 0 (take i xs)) ((0 + length (take i xs), get_or xs i x) ∷ [])
-    ∙ ap (λ n. map f (enumerate_from 0 (take i xs)) ++ f (n, get_or xs i x) ∷ []) (omega arith)
+    ap (enumerate_from 0) (take_more xs i x before)
+    ∙ enumerate_append 0 (take i xs) (get_or xs i x ∷ [])
+    ∙ ap (λ n. enumerate_from 0 (take i xs) ++ (n, get_or xs i x) ∷ []) (omega arith)

@@ -1,8 +1,8 @@
 -- What was read of a source is its bytes to the end, or as many as are read of it.
-use Rattle.std.proofs.Common.{◌≡◌, ℕ, ◌+◌, ◌-◌, ◌^◌, ◌≤◌, Bool, true, false, cond, not, min, List, [], ◌∷◌, ◌++◌, length, take, drop, zero-add, Option, Some, None, refl, ap, ◌∙◌, sym, arith, suc, zero, if◌then◌else◌}
+use Rattle.std.proofs.Common.{◌≡◌, ℕ, ◌+◌, ◌-◌, ◌≤◌, Bool, true, false, cond, not, List, [], ◌∷◌, ◌++◌, length, map, is_none, get_or, ◌<◌, take, drop, zero-add, Option, Some, None, refl, ap, ◌∙◌, sym, arith, suc, zero, if◌then◌else◌}
 use Rattle.std.specs.List.{count_by}
 use Rattle.std.proofs.Math.Seq.{take-append-add}
-use Rattle.std.proofs.lemmas.List.{take_all, append-nil, append_assoc, take-append-le, length-append}
+use Rattle.std.proofs.lemmas.List.{take_all, append-nil, append_assoc, take-append-le}
 use Rattle.std.proofs.lemmas.List.Sums.{count_by-le-length, sum_by-append}
 use Rattle.std.specs.Io.KnownBytes.{Consumes, IsAtEnd}
 use Rattle.std.proofs.Common.{Result, Ok, Err, IfOk}
@@ -16,8 +16,14 @@ use Rattle.asterix_blocks.specs.declared.blocks.End.TheVariants.{BadLength}
 use Rattle.asterix_blocks.specs.declared.TheConstants.{FEED_ROOM}
 use Rattle.asterix_blocks.specs.declared.blocks.End.{End}
 use Rattle.replay_cli.specs.declared.input.Gathered.{Gathered}
-use Rattle.replay_cli.specs.Feeds.{ReadsWhole, ReadsNamed, ReadsText, TextOf, Gathers, content_as, told_blocks, told_count, with_one}
+use Rattle.replay_cli.specs.Feeds.{ReadsEach, ReadsWhole, ReadsNamed, ReadsText, TextOf, Gathers, content_as, told_blocks, told_count, with_one}
+use Rattle.outside_io.specs.Names.{bytes_of}
 use Rattle.replay_cli.specs.Content.{Content, content, content_by, is_of_category}
+use Rattle.replay_cli.specs.Run.{Files, feed_of, read_of}
+use Rattle.replay_cli.proofs.Lists.{found_more}
+use Rattle.std.specs.List.{filter_map, find}
+use Rattle.std.proofs.lemmas.List.{map-append, take_more}
+use Rattle.std.proofs.lemmas.List.Folds.{find-append}
 
 whole : (told bytes left : List ℕ) (room : ℕ) → told ≡ bytes ++ left → left ≡ [] → length bytes ≤ room → bytes ≡ take room told
 whole told bytes left room taken ended within =
@@ -142,3 +148,23 @@ pub text_named : (files : Option (List (List ℕ × List ℕ))) (name : List ℕ
     Opens files name left → ReadsText left most text → TextOf files name most text
 text_named None name most left text opened read = tt
 text_named (Some files) name most left text opened read = (opened.0, opened.1, rw opened.2 at read)
+
+-- ---- the feeds under names, one after the other
+
+pub none_read : (files : Option Files) → ReadsEach files [] []
+none_read None = tt
+none_read (Some told) = (refl, refl)
+
+pub one_more_read : (files : Option Files) (names : List (List ℕ)) (i : ℕ) (name : List ℕ) (inputs : List Content) (input : Content) → i < length names → name ≡ get_or names i name →
+    ReadsEach files (take i names) inputs → ReadsNamed files name input → ReadsEach files (take (i + 1) names) (inputs ++ input ∷ [])
+one_more_read None names i name inputs input within here before read = tt
+one_more_read (Some told) names i name inputs input within here before read =
+    let there : bytes_of (get_or names i name) told ≡ Some read.0 = ap (λ (n : List ℕ). bytes_of n told) (sym here) ∙ read.1 in
+    let more = found_more (read_of told) names i name (feed_of read.0) within (rw there refl) in (
+      ap (find (λ n. is_none (bytes_of n told))) (take_more names i name within) ∙ find-append (λ n. is_none (bytes_of n told)) (take i names) (get_or names i name ∷ []) ∙ rw (before.0, there) refl,
+      ap (λ l. l ++ input ∷ []) before.1 ∙ ap (λ x. map content (filter_map (read_of told) (take i names)) ++ x ∷ []) read.2
+          ∙ sym (map-append content (filter_map (read_of told) (take i names)) (feed_of read.0 ∷ [])) ∙ ap (map content) (sym more),
+    )
+
+pub all_read : (files : Option Files) (names : List (List ℕ)) (i : ℕ) (inputs : List Content) → length names ≤ i → ReadsEach files (take i names) inputs → ReadsEach files names inputs
+all_read files names i inputs past read = rw (take_all i names past) at read

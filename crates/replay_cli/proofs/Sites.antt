@@ -1,15 +1,14 @@
 -- What the stages of a cycle rely on of an accepted site.
-use Rattle.std.proofs.Common.{◌≡◌, ◌<◌, ◌≤◌, ℕ, ℤ, pos, ◌≤ℤ◌, List, [], ◌∷◌, length, get_or, Some, arith}
-use Rattle.std.specs.List.{All, slice_get}
+use Rattle.std.proofs.Common.{◌≡◌, pos, ◌≤ℤ◌, [], get_or, None, Some, arith, w32, w64, to_z, of_z}
+use Rattle.std.specs.List.{slice_get}
 use Rattle.std.proofs.lemmas.Option.{get_or_from_slice_get}
-use Rattle.std.proofs.lemmas.Int.{ints}
+use Rattle.std.proofs.lemmas.Int.{fits_signed_from_abs, ints, to_z-of_z}
 use Rattle.site_params.specs.declared.site.Set.{Set}
 use Rattle.site_params.specs.declared.site.Site.{Site}
-use Rattle.site_params.specs.Ranges.{IsIn, IsSite, IsSet}
-use Rattle.site_params.specs.declared.numbers.TheConstants.{TICKS_PER_SECOND}
-use Rattle.site_params.specs.declared.ranges.TheConstants.{LOOK_SECONDS}
+use Rattle.site_params.specs.Ranges.{IsSite, IsSet}
+use Rattle.track_table.specs.Held.{Held}
 use Rattle.replay_cli.specs.Rows.{IsTimed}
-use Rattle.replay_cli.specs.Stca.{IsFromTo, IsPaired}
+use Rattle.replay_cli.proofs.Signed.{as_is}
 
 pub timed : (site : Site) → IsSite site → IsTimed site
 timed site is =
@@ -22,31 +21,50 @@ timed site is =
       start_high = omega (arith, ints, start.high);
       period_low = omega (arith, ints, period.low);
       period_high = omega (arith, ints, period.high);
-      timeout = omega (arith, ints, timeout.high);
+      timeout_low = omega (arith, ints, timeout.low);
+      timeout_high = omega (arith, ints, timeout.high);
       qnh = omega (arith, ints, qnh.low, qnh.high);
     }
 
-look_in : (looks : List ℤ) → All (IsIn LOOK_SECONDS TICKS_PER_SECOND) looks → IsFromTo (get_or looks 0 (pos 0)) 0 15360
-look_in [] each = (omega (arith, ints), omega (arith, ints))
-look_in (look ∷ looks) each = (let first = each 0 look (omega arith) in (omega (arith, ints, first.low), omega (arith, ints, first.high)))
+pub period_low : (site : Site) → IsTimed site → pos 0 ≤ℤ site.period
+period_low site is =
+    let some = is.period_low in
+    omega (arith, ints)
 
-pub paired : (set : Set) → IsSet set → IsPaired set
-paired set is =
-    let split = is.split in
-    let h = is.now_h in
-    let low = is.now_v_low in
-    let high = is.now_v_high in
-    record {
-      look = look_in set.look is.look;
-      split = (omega (arith, ints, split.low), omega (arith, ints, split.high));
-      now_h = (omega (arith, ints, h.low), omega (arith, ints, h.high));
-      now_v_low = (omega (arith, ints, low.low), omega (arith, ints, low.high));
-      now_v_high = (omega (arith, ints, high.low), omega (arith, ints, high.high));
-    }
+-- the times in 64 bits
+pub start_is : (site : Site) → IsTimed site → to_z w64 (of_z w64 site.start) ≡ site.start
+start_is site is =
+    let low = is.start_low in
+    let high = is.start_high in
+    as_is site.start (omega (arith, ints))
+
+pub period_is : (site : Site) → IsTimed site → to_z w64 (of_z w64 site.period) ≡ site.period
+period_is site is =
+    let low = is.period_low in
+    let high = is.period_high in
+    as_is site.period (omega (arith, ints))
+
+pub timeout_is : (site : Site) → IsTimed site → to_z w64 (of_z w64 site.timeout) ≡ site.timeout
+timeout_is site is =
+    let low = is.timeout_low in
+    let high = is.timeout_high in
+    as_is site.timeout (omega (arith, ints))
+
+-- a table of these times is one of the site
+pub fresh_held : (site : Site) (held : Held) → IsTimed site →
+    held ≡ record { start = to_z w64 (of_z w64 site.start); period = to_z w64 (of_z w64 site.period); timeout = to_z w64 (of_z w64 site.timeout); frozen = None; kept = [] } →
+    held ≡ record { start = site.start; period = site.period; timeout = site.timeout; frozen = None; kept = [] }
+fresh_held site held timed is = rw (start_is site timed, period_is site timed, timeout_is site timed) at is
+
+-- a correction in 32 bits
+pub correction_is : (site : Site) → IsTimed site → to_z w32 (of_z w32 site.qnh) ≡ site.qnh
+correction_is site of =
+    let small = of.qnh in
+    to_z-of_z w32 site.qnh (fits_signed_from_abs w32 site.qnh (omega arith))
 
 -- the first of the site's sets
-pub first_paired : (site : Site) (set : Set) → IsSite site → slice_get site.sets 0 ≡ Some set → IsPaired set
-first_paired site set is first =
+pub first_set : (site : Site) (set : Set) → IsSite site → slice_get site.sets 0 ≡ Some set → IsSet set
+first_set site set is first =
     let count = is.sets.count.low in
     let here : get_or site.sets 0 set ≡ set = get_or_from_slice_get site.sets 0 set set first in
-    paired set (rw here at (is.sets.each 0 set (omega (arith, ints))))
+    rw here at (is.sets.each 0 set (omega (arith, ints)))

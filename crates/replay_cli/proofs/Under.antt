@@ -1,7 +1,8 @@
 -- What a run finds, from what was read under the names.
-use Rattle.std.proofs.Common.{◌≡◌, ◌≢◌, ◌⊎◌, ◌∙◌, ◌+◌, ◌<◌, ◌≤◌, inl, inr, refl, sym, ap, ℕ, List, [], ◌∷◌, length, take, drop, Option, None, Some, Result, Ok, Err, Contains, length-take-le, rules, arith}
+use Rattle.std.proofs.Common.{◌≡◌, ◌≢◌, ◌⊎◌, ◌∙◌, ◌+◌, ◌<◌, ◌≤◌, inl, inr, refl, sym, ap, zero, suc, ℕ, Bool, true, false, List, [], ◌∷◌, get_or, length, map, take, is_none, Option, None, Some, Result, Ok, Err, IfErr, IsErrAnd, IsErrOf, Contains, length-take-le, arith, if◌then◌else◌}
+use Rattle.std.specs.List.{filter_map}
 use Rattle.std.proofs.lemmas.Bool.{cases_lt, lt-ltb}
-use Rattle.std.proofs.lemmas.List.{take_all}
+use Rattle.std.proofs.lemmas.List.{get_or-map, get_or_default, length-map, take_all}
 use Rattle.std.specs.Option.{option_map}
 use Rattle.std.specs.Io.KnownBytes.{Appends}
 use Rattle.outside_io.specs.Bytes.{AppendsPrefix}
@@ -16,14 +17,16 @@ use Rattle.site_params.specs.Kinds.{Reading}
 use Rattle.site_params.specs.Site.{site_of_text}
 use Rattle.replay_cli.specs.Content.{Content, content}
 use Rattle.replay_cli.specs.Counts.{report_in}
-use Rattle.replay_cli.specs.Ends.{Breaks, Change, Completes, Ends, IsAsked, IsNotBuilt, RefusesSite, StopsBy, change, only_one, ran}
-use Rattle.replay_cli.specs.Feeds.{ReadsNamed, TextOf}
-use Rattle.replay_cli.specs.Found.{Found, OtherWords, Untold, Lacking, Refused, Several, Given, found_feed, found_feeds, found_names, found_site, found_of, request, IsLacking}
+use Rattle.replay_cli.specs.Ends.{Breaks, Change, Completes, Ends, IsAsked, IsNotBuilt, RefusesSite, StopsBy, change, ran}
+use Rattle.replay_cli.specs.Feeds.{ReadsEach, TextOf}
+use Rattle.replay_cli.specs.Found.{Found, Untold, Given, found_unless, found_names, found_site, request, IsLacking}
 use Rattle.replay_cli.specs.Outcomes.{Sunk}
-use Rattle.replay_cli.specs.Run.{Files, feed_of}
-use Rattle.replay_cli.specs.Stops.{IsReading, StopsNamed, StopsSite, site_fault}
+use Rattle.replay_cli.specs.Run.{Files, first_lacking, read_of}
+use Rattle.replay_cli.specs.Stops.{IsReading, StopsAmong, StopsNamed, StopsSite, fault_of, site_fault}
 use Rattle.replay_cli.specs.Reference.{AreSupported}
 use Rattle.replay_cli.specs.Works.{IsWork}
+use Rattle.replay_cli.specs.declared.input.Unread.{Unread}
+use Rattle.replay_cli.specs.declared.input.Unread.TheVariants as unreads
 use Rattle.replay_cli.specs.declared.request.Request.{Request}
 use Rattle.replay_cli.specs.declared.work.Work.{Work}
 use Rattle.replay_cli.specs.declared.texts.FaultText.{FaultText}
@@ -49,38 +52,21 @@ reading_is (Some files) name text reading told is = rw told.1 (ap Some (sym (sit
 -- ---- what is found under an accepted site
 
 -- a property of what is found holds where it does while nothing is told, and where it does of the feeds under the site
-pub under_site : (files : Option Files) (r : Request) (site : Site) (P : Found → Type 0) → IsReading files r.site (Ok site) → P Untold →
-    ((told : Files) → files ≡ Some told → P (found_feeds told site r.feeds)) → P (found_names files r)
-under_site None r site P reading untold holds = untold
-under_site (Some told) r site P reading untold holds = rw reading (holds told refl)
-
-only_is : (names : List (List ℕ)) (name : List ℕ) → only_one names ≡ Ok name → names ≡ name ∷ []
-only_is [] name only = absurd (cc)
-only_is (one ∷ []) name only = (let same : one ≡ name = cc in rw same refl)
-only_is (one ∷ other ∷ names) name only = absurd (cc)
-
--- and of the feed
-pub under_feed : (files : Option Files) (r : Request) (site : Site) (name : List ℕ) (found : Content) (P : Found → Type 0) → IsReading files r.site (Ok site) → only_one r.feeds ≡ Ok name →
-    ReadsNamed files name found → P Untold → ((feed : List ℕ) → found ≡ content feed → P (Given site feed)) → P (found_names files r)
-under_feed None r site name found P reading only reads untold holds = untold
-under_feed (Some told) r site name found P reading only reads untold holds =
-    rw (reading, only_is r.feeds name only, reads.1) (holds (feed_of reads.0) reads.2)
+pub under_site : (files : Option Files) (r : Request) (site : Site) (inputs : List Content) (P : Found → Type 0) → IsReading files r.site (Ok site) → ReadsEach files r.feeds inputs → P Untold →
+    ((feeds : List (List ℕ)) → inputs ≡ map content feeds → P (Given site feeds)) → P (found_names files r)
+under_site None r site inputs P reading reads untold holds = untold
+under_site (Some told) r site inputs P reading reads untold holds = rw (reading, reads.0) (holds (filter_map (read_of told) r.feeds) reads.1)
 
 -- ---- runs that stop
 
-asked_feed : (site : Site) (name : List ℕ) (bytes : Option (List ℕ)) → IsAsked (found_feed site name bytes)
-asked_feed site name None = tt
-asked_feed site name (Some bytes) = tt
-
-asked_feeds : (told : Files) (site : Site) (names : List (List ℕ)) → IsAsked (found_feeds told site names)
-asked_feeds told site [] = tt
-asked_feeds told site (name ∷ []) = asked_feed site name (bytes_of name told)
-asked_feeds told site (name ∷ other ∷ names) = tt
+asked_unless : (lacking : Option (List ℕ)) (site : Site) (feeds : List (List ℕ)) → IsAsked (found_unless lacking site feeds)
+asked_unless None site feeds = tt
+asked_unless (Some name) site feeds = tt
 
 asked_site : (told : Files) (r : Request) (reading : Option (Reading Site)) → IsAsked (found_site told r reading)
 asked_site told r None = tt
 asked_site told r (Some (Err fault)) = tt
-asked_site told r (Some (Ok site)) = asked_feeds told site r.feeds
+asked_site told r (Some (Ok site)) = asked_unless (first_lacking told r.feeds) site (filter_map (read_of told) r.feeds)
 
 asked_names : (files : Option Files) (r : Request) → IsAsked (found_names files r)
 asked_names None r = tt
@@ -93,12 +79,29 @@ lacks_site (Some told) r lacks =
     let none : bytes_of r.site told ≡ None = rw same lacks.2 in
     rw none tt
 
-lacks_feed : (files : Option Files) (r : Request) (site : Site) (name : List ℕ) → IsReading files r.site (Ok site) → only_one r.feeds ≡ Ok name → Lacks files name → IsLacking (found_names files r)
-lacks_feed None r site name reading only lacks = absurd (let none = lacks.1 in cc)
-lacks_feed (Some told) r site name reading only lacks =
+lacking_unless : (lacking : Option (List ℕ)) (site : Site) (feeds : List (List ℕ)) → lacking ≢ None → IsLacking (found_unless lacking site feeds)
+lacking_unless None site feeds some = absurd (some refl)
+lacking_unless (Some name) site feeds some = tt
+
+found_first : (lacking : Bool) (name : List ℕ) (rest : Option (List ℕ)) → (lacking ≡ false → rest ≢ None) → (if lacking then Some name else rest) ≢ None
+found_first true name rest others = λ none. cc
+found_first false name rest others = others refl
+
+-- where a name is lacking, one of them is the first
+some_lacking : (told : Files) (names : List (List ℕ)) (k : ℕ) → k < length names → bytes_of (get_or names k []) told ≡ None → first_lacking told names ≢ None
+some_lacking told [] k within lacks = absurd (omega arith)
+some_lacking told (name ∷ names) zero within lacks = found_first (is_none (bytes_of name told)) name (first_lacking told names) (λ there. absurd (let no = rw lacks at there in cc))
+some_lacking told (name ∷ names) (suc k) within lacks = found_first (is_none (bytes_of name told)) name (first_lacking told names) (λ there. some_lacking told names k (omega arith) lacks)
+
+one_lacks : (told : Files) (names : List (List ℕ)) (k : ℕ) (name : List ℕ) → k < length names → get_or names k name ≡ name → bytes_of name told ≡ None → bytes_of (get_or names k []) told ≡ None
+one_lacks told names k name within is none = rw (get_or_default names k [] name within, is) none
+
+lacks_feed : (files : Option Files) (r : Request) (site : Site) (name : List ℕ) → IsReading files r.site (Ok site) → Contains r.feeds name → Lacks files name → IsLacking (found_names files r)
+lacks_feed None r site name reading one lacks = absurd (let none = lacks.1 in cc)
+lacks_feed (Some told) r site name reading one lacks =
     let same : told ≡ lacks.0 = (let some = lacks.1 in cc) in
     let none : bytes_of name told ≡ None = rw same lacks.2 in
-    rw (reading, only_is r.feeds name only, none) tt
+    rw reading (lacking_unless (first_lacking told r.feeds) site (filter_map (read_of told) r.feeds) (some_lacking told r.feeds one.0 one.1 (one_lacks told r.feeds one.0 name one.1 one.2 none)))
 
 refused_site : (files : Option Files) (r : Request) (fault : SiteFault) → IsReading files r.site (Err fault) → RefusesSite (found_names files r) fault
 refused_site None r fault reading = tt
@@ -107,8 +110,8 @@ refused_site (Some told) r fault reading = rw reading refl
 first_name : (r : Request) (name : List ℕ) → name ≡ r.site → Contains (r.site ∷ r.feeds) name
 first_name r name same = (0, omega arith, sym same)
 
-second_name : (r : Request) (name other : List ℕ) → only_one r.feeds ≡ Ok name → other ≡ name → Contains (r.site ∷ r.feeds) other
-second_name r name other only same = rw (only_is r.feeds name only) (1, omega arith, sym same)
+later_name : (r : Request) (name : List ℕ) → Contains r.feeds name → Contains (r.site ∷ r.feeds) name
+later_name r name one = (suc one.0, omega (arith, one.1), one.2)
 
 -- the site wasn't read
 pub stops_at_site : (files : Option Files) (words : List (List ℕ)) (r : Request) (e : FaultText) (before after : ℕ) (out : Sunk) →
@@ -123,71 +126,59 @@ stops_at_site files words r (texts.ReadFailed name) before after out asked stops
 stops_at_site files words r texts.WriteFailed before after out asked stops = absurd stops
 stops_at_site files words r texts.NoMemory before after out asked stops = tt
 
--- the feed wasn't read
-pub stops_at_feed : (files : Option Files) (words : List (List ℕ)) (r : Request) (site : Site) (name : List ℕ) (e : FaultText) (before after : ℕ) (out : Sunk) →
-    request words ≡ Some r → IsReading files r.site (Ok site) → only_one r.feeds ≡ Ok name → StopsNamed files before after name e → StopsBy e (ran files words (change before after) out)
-stops_at_feed files words r site name texts.Usage before after out asked reading only stops = absurd stops
-stops_at_feed files words r site name (texts.Site fault) before after out asked reading only stops = absurd stops
-stops_at_feed files words r site name texts.NotBuilt before after out asked reading only stops = absurd stops
-stops_at_feed files words r site name (texts.CannotOpen other) before after out asked reading only stops =
-    rw asked (asked_names files r, second_name r name other only stops.0, elim stops.1 [ inl lacks ↦ inl (lacks_feed files r site name reading only lacks) | inr rose ↦ inr rose ])
-stops_at_feed files words r site name (texts.ReadFailed other) before after out asked reading only stops =
-    rw asked (asked_names files r, second_name r name other only stops.0, stops.1)
-stops_at_feed files words r site name texts.WriteFailed before after out asked reading only stops = absurd stops
-stops_at_feed files words r site name texts.NoMemory before after out asked reading only stops = tt
+-- one of the feeds wasn't read
+among : (files : Option Files) (words : List (List ℕ)) (r : Request) (site : Site) (name : List ℕ) (e : FaultText) (before after : ℕ) (out : Sunk) →
+    request words ≡ Some r → IsReading files r.site (Ok site) → Contains r.feeds name → StopsNamed files before after name e → StopsBy e (ran files words (change before after) out)
+among files words r site name texts.Usage before after out asked reading one stops = absurd stops
+among files words r site name (texts.Site fault) before after out asked reading one stops = absurd stops
+among files words r site name texts.NotBuilt before after out asked reading one stops = absurd stops
+among files words r site name (texts.CannotOpen other) before after out asked reading one stops =
+    rw (asked, stops.0) (asked_names files r, later_name r name one, elim stops.1 [ inl lacks ↦ inl (lacks_feed files r site name reading one lacks) | inr rose ↦ inr rose ])
+among files words r site name (texts.ReadFailed other) before after out asked reading one stops =
+    rw (asked, stops.0) (asked_names files r, later_name r name one, stops.1)
+among files words r site name texts.WriteFailed before after out asked reading one stops = absurd stops
+among files words r site name texts.NoMemory before after out asked reading one stops = tt
 
--- there isn't just one feed
-not_one : (told : Files) (site : Site) (names : List (List ℕ)) (e : FaultText) → only_one names ≡ Err e → IsNotBuilt (found_feeds told site names)
-not_one told site [] e only = tt
-not_one told site (name ∷ []) e only = absurd (cc)
-not_one told site (name ∷ other ∷ names) e only = tt
-
-one_fault : (names : List (List ℕ)) (e : FaultText) → only_one names ≡ Err e → e ≡ texts.NotBuilt
-one_fault [] e only = (let same : texts.NotBuilt ≡ e = cc in sym same)
-one_fault (name ∷ []) e only = absurd (cc)
-one_fault (name ∷ other ∷ names) e only = (let same : texts.NotBuilt ≡ e = cc in sym same)
-
-pub stops_at_names : (files : Option Files) (words : List (List ℕ)) (r : Request) (site : Site) (e : FaultText) (world : Change) (out : Sunk) →
-    request words ≡ Some r → IsReading files r.site (Ok site) → only_one r.feeds ≡ Err e → StopsBy e (ran files words world out)
-stops_at_names files words r site e world out asked reading only =
-    rw (one_fault r.feeds e only, asked) (under_site files r site IsNotBuilt reading tt (λ told is. not_one told site r.feeds e only))
+pub stops_at_feeds : (files : Option Files) (words : List (List ℕ)) (r : Request) (site : Site) (e : FaultText) (before after : ℕ) (out : Sunk) →
+    request words ≡ Some r → IsReading files r.site (Ok site) → StopsAmong files before after r.feeds e → StopsBy e (ran files words (change before after) out)
+stops_at_feeds files words r site e before after out asked reading stops = among files words r site stops.0 e before after out asked reading stops.1 stops.2
 
 -- the words ask for nothing
 pub stops_at_words : (files : Option Files) (words : List (List ℕ)) (e : FaultText) (world : Change) (out : Sunk) → (e ≡ texts.NoMemory) ⊎ ((e ≡ texts.Usage) × (request words ≡ None)) → StopsBy e (ran files words world out)
 stops_at_words files words e world out (inl memory) = rw memory tt
 stops_at_words files words e world out (inr usage) = rw (usage.0, usage.1) refl
 
--- the feed isn't supported
-pub stops_at_form : (files : Option Files) (words : List (List ℕ)) (r : Request) (site : Site) (name : List ℕ) (found : Content) (e : FaultText) (world : Change) (out : Sunk) →
-    request words ≡ Some r → IsReading files r.site (Ok site) → only_one r.feeds ≡ Ok name → ReadsNamed files name found →
-    (e ≡ texts.NoMemory) ⊎ ((e ≡ texts.NotBuilt) × (AreSupported site found.records → ⊥)) → StopsBy e (ran files words world out)
-stops_at_form files words r site name found e world out asked reading only reads (inl memory) = rw memory tt
-stops_at_form files words r site name found e world out asked reading only reads (inr not_built) =
-    rw (not_built.0, asked) (under_feed files r site name found IsNotBuilt reading only reads tt (λ feed is. rw is at not_built.1))
+-- the feeds aren't supported
+pub stops_at_form : (files : Option Files) (words : List (List ℕ)) (r : Request) (site : Site) (inputs : List Content) (e : FaultText) (world : Change) (out : Sunk) →
+    request words ≡ Some r → IsReading files r.site (Ok site) → ReadsEach files r.feeds inputs →
+    (e ≡ texts.NoMemory) ⊎ ((e ≡ texts.NotBuilt) × (AreSupported site inputs → ⊥)) → StopsBy e (ran files words world out)
+stops_at_form files words r site inputs e world out asked reading reads (inl memory) = rw memory tt
+stops_at_form files words r site inputs e world out asked reading reads (inr not_built) =
+    rw (not_built.0, asked) (under_site files r site inputs IsNotBuilt reading reads tt (λ feeds is. rw is at not_built.1))
 
--- ---- what was written of a feed
+-- ---- what was written of feeds
 
-completed : (files : Option Files) (r : Request) (site : Site) (name : List ℕ) (found : Content) (work : Work) (out : Sunk) →
-    IsReading files r.site (Ok site) → only_one r.feeds ≡ Ok name → ReadsNamed files name found → IsWork site found work → Appends out.before out.after work.alerts.items → Completes (found_names files r) out work
-completed files r site name found work out reading only reads is all =
-    under_feed files r site name found (λ f. Completes f out work) reading only reads (report_in site found, is.report)
-    (λ feed same. (rw same at is, rw (is.alerts, same) at all))
+completed : (files : Option Files) (r : Request) (site : Site) (inputs : List Content) (work : Work) (out : Sunk) →
+    IsReading files r.site (Ok site) → ReadsEach files r.feeds inputs → IsWork site inputs work → Appends out.before out.after work.alerts.items → Completes (found_names files r) out work
+completed files r site inputs work out reading reads is all =
+    under_site files r site inputs (λ f. Completes f out work) reading reads (report_in site inputs, is.report)
+    (λ feeds same. (rw same at is, rw (is.alerts, same) at all))
 
-broken : (files : Option Files) (r : Request) (site : Site) (name : List ℕ) (found : Content) (work : Work) (out : Sunk) →
-    IsReading files r.site (Ok site) → only_one r.feeds ≡ Ok name → ReadsNamed files name found → IsWork site found work → AppendsPrefix out.before out.after work.alerts.items → Breaks (found_names files r) out
-broken files r site name found work out reading only reads is front =
-    under_feed files r site name found (λ f. Breaks f out) reading only reads (work.report.items, (report_in site found, is.report))
-    (λ feed same. (rw same at is.supported, rw (is.alerts, same) at front))
+broken : (files : Option Files) (r : Request) (site : Site) (inputs : List Content) (work : Work) (out : Sunk) →
+    IsReading files r.site (Ok site) → ReadsEach files r.feeds inputs → IsWork site inputs work → AppendsPrefix out.before out.after work.alerts.items → Breaks (found_names files r) out
+broken files r site inputs work out reading reads is front =
+    under_site files r site inputs (λ f. Breaks f out) reading reads (work.report.items, (report_in site inputs, is.report))
+    (λ feeds same. (rw same at is.supported, rw (is.alerts, same) at front))
 
-pub completes : (files : Option Files) (words : List (List ℕ)) (r : Request) (site : Site) (name : List ℕ) (found : Content) (work : Work) (world : Change) (out : Sunk) →
-    request words ≡ Some r → IsReading files r.site (Ok site) → only_one r.feeds ≡ Ok name → ReadsNamed files name found → IsWork site found work → Appends out.before out.after work.alerts.items →
+pub completes : (files : Option Files) (words : List (List ℕ)) (r : Request) (site : Site) (inputs : List Content) (work : Work) (world : Change) (out : Sunk) →
+    request words ≡ Some r → IsReading files r.site (Ok site) → ReadsEach files r.feeds inputs → IsWork site inputs work → Appends out.before out.after work.alerts.items →
     Ends (ran files words world out) (Ok work)
-completes files words r site name found work world out asked reading only reads is all = rw asked (completed files r site name found work out reading only reads is all)
+completes files words r site inputs work world out asked reading reads is all = rw asked (completed files r site inputs work out reading reads is all)
 
-pub breaks : (files : Option Files) (words : List (List ℕ)) (r : Request) (site : Site) (name : List ℕ) (found : Content) (work : Work) (world : Change) (out : Sunk) →
-    request words ≡ Some r → IsReading files r.site (Ok site) → only_one r.feeds ≡ Ok name → ReadsNamed files name found → IsWork site found work →
+pub breaks : (files : Option Files) (words : List (List ℕ)) (r : Request) (site : Site) (inputs : List Content) (work : Work) (world : Change) (out : Sunk) →
+    request words ≡ Some r → IsReading files r.site (Ok site) → ReadsEach files r.feeds inputs → IsWork site inputs work →
     Rose out.faults_before out.faults_after → AppendsPrefix out.before out.after work.alerts.items → Ends (ran files words world out) (Err texts.WriteFailed)
-breaks files words r site name found work world out asked reading only reads is rose front = rw asked (rose, broken files r site name found work out reading only reads is front)
+breaks files words r site inputs work world out asked reading reads is rose front = rw asked (rose, broken files r site inputs work out reading reads is front)
 
 -- ---- a site that is refused
 
@@ -227,3 +218,28 @@ stops_later files first before after name (texts.CannotOpen other) le stops = (s
 stops_later files first before after name (texts.ReadFailed other) le stops = (stops.0, rose_before first before after le stops.1)
 stops_later files first before after name texts.WriteFailed le stops = stops
 stops_later files first before after name texts.NoMemory le stops = stops
+
+pub stops_later_among : (files : Option Files) (first before after : ℕ) (names : List (List ℕ)) (e : FaultText) → first ≤ before → StopsAmong files before after names e → StopsAmong files first after names e
+stops_later_among files first before after names e le stops = (stops.0, stops.1, stops_later files first before after stops.0 e le stops.2)
+
+-- ---- a feed that wasn't read
+
+pub stops_unread : {T : Type 0} (files : Option Files) (before after : ℕ) (name : List ℕ) (u : Unread) → (IsErrOf {T = T} (Err u) unreads.Unopened → Lacks files name ⊎ Rose before after) →
+    (IsErrOf {T = T} (Err u) unreads.Broken → Rose before after) →
+    StopsNamed files before after name (fault_of u name)
+stops_unread files before after name unreads.Unopened opened failed = (refl, opened refl)
+stops_unread files before after name unreads.Broken opened failed = (refl, failed refl)
+stops_unread files before after name unreads.NoMemory opened failed = tt
+
+pub memory_among : {T : Type 0} (files : Option Files) (before after : ℕ) (names : List (List ℕ)) (name : List ℕ) (result : Result T FaultText) → Contains names name → IsErrAnd result (λ e. e ≡ texts.NoMemory) →
+    IfErr result (StopsAmong files before after names)
+memory_among files before after names name (Ok v) one memory = tt
+memory_among files before after names name (Err e) one memory = (name, one, rw memory tt)
+
+-- the text of a name among the names
+pub name_at : {A : Type 0} (f : A → List ℕ) (items : List A) (names : List (List ℕ)) (i : ℕ) (item : A) (name : List ℕ) → map f items ≡ names → i < length items → item ≡ get_or items i item → name ≡ f item → name ≡ get_or names i name
+name_at f items names i item name maps within here is =
+    is ∙ ap f here ∙ sym (get_or-map f items i item name within) ∙ ap (λ (ns : List (List ℕ)). get_or ns i name) maps
+
+pub as_many : {A : Type 0} (f : A → List ℕ) (items : List A) (names : List (List ℕ)) → map f items ≡ names → length items ≡ length names
+as_many f items names maps = sym (length-map items f) ∙ ap (λ (ns : List (List ℕ)). length ns) maps

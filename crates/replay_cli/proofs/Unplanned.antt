@@ -1,5 +1,5 @@
 -- Which words have no plan.
-use Rattle.std.proofs.Common.{◌≡◌, ◌≢◌, ◌∙◌, ◌<◌, ◌≤◌, ◌⊎◌, ◌-◌, ◌^◌, ℕ, Bool, cond, true, false, codes, List, [], ◌∷◌, length, min, Option, Some, None, is_some, Result, Ok, Err, inl, inr, refl, ap, sym}
+use Rattle.std.proofs.Common.{◌≡◌, ◌≢◌, ◌∙◌, ◌<◌, ◌≤◌, ◌⊎◌, ◌-◌, ◌^◌, arith, ℕ, Bool, cond, true, false, codes, List, [], ◌∷◌, length, min, Option, Some, None, is_some, Result, Ok, Err, inl, inr, refl, ap, sym}
 use Rattle.std.specs.Option.{option_map_or}
 use Rattle.std.specs.Result.{result_map_both}
 use Rattle.std.specs.Str.{bytes_eq}
@@ -9,9 +9,10 @@ use Rattle.clap.specs.Simple.{built, entered, names_of, subcommand_of}
 use Rattle.clap.specs.Kinds.{Kinds, or_else}
 use Rattle.clap.specs.Faults.{check_fault, defaults_fault, entered_fault, fault_of, settle_fault, walk_fault}
 use Rattle.replay_cli.specs.Words.{safetynets}
-use Rattle.replay_cli.specs.Plans.{counted, feeds_of, plan_of_command, replay_of, run_of, site_of, unless_refused, workers_of}
+use Rattle.replay_cli.specs.Plans.{counted, feeds_of, plan_of, plan_of_command, replay_of, run_of, site_of, unless_refused, workers_of}
 use Rattle.replay_cli.specs.declared.words.plan.Plan.{Plan}
 use Rattle.replay_cli.specs.declared.words.plan.Plan.TheVariants.{Replay, Run}
+use Rattle.replay_cli.specs.declared.words.plan.TheConstants.{MOST_FEEDS}
 use Rattle.replay_cli.specs.declared.words.plan.WordsFault.{WordsFault}
 use Rattle.replay_cli.specs.declared.words.plan.WordsFault.TheVariants.{Usage, Feeds}
 use Rattle.replay_cli.proofs.PlainWords.{commands, top_fault}
@@ -113,3 +114,34 @@ pub outside_is : (kinds : Kinds) (found : Option (Text × List Row)) (told : ℕ
 outside_is (k ∷ ks) found told taken has outside count = absurd (taken (λ e. cc))
 outside_is [] None told taken has outside count = let bad = has refl in cc
 outside_is [] (Some found) told taken has outside count = (command_is found).1 ∙ made_outside (command_is found).0 (feeds_of found.1) outside ∙ ap (λ (n : ℕ). Err (Feeds n)) (sym count)
+
+-- ---- a plan has no more feeds than a command may have
+
+unless_taken : (kinds : Kinds) (plan : Result Plan WordsFault) (p : Plan) → unless_refused kinds plan ≡ Ok p → plan ≡ Ok p
+unless_taken [] plan p is = is
+unless_taken (fault ∷ faults) plan p is = absurd (cc)
+
+few_counted : (feeds others : List Text) → counted feeds ≡ Ok others → (others ≡ feeds) × (length feeds ≤ MOST_FEEDS)
+few_counted feeds others is = elim (cases_lt 8 (length feeds)) [
+  | inl many ↦ absurd (let none = counted_many feeds many in cc)
+  | inr few ↦ elim (cases_lt (length feeds) 1) [
+    | inl none ↦ absurd (let empty = counted_none feeds none in cc)
+    | inr some ↦ (let all = counted_few feeds (omega arith) (omega arith) in let same : others ≡ feeds = cc in (same, omega arith))
+  ]
+]
+
+few_replayed : (run : Bool) (values : List Row) (site : Text) (feeds : List Text) (found : Result (List Text) WordsFault) → counted (feeds_of values) ≡ found →
+    result_map_both (λ fs. cond run (Run (site_of values) (workers_of values) fs) (Replay (site_of values) fs)) (λ fault. fault) found ≡ Ok (Replay site feeds) → length feeds ≤ MOST_FEEDS
+few_replayed true values site feeds (Ok others) is made = absurd (cc)
+few_replayed false values site feeds (Ok others) is made =
+    let few = few_counted (feeds_of values) others is in
+    let same : others ≡ feeds = cc in
+    rw (← same, few.0) few.1
+few_replayed run values site feeds (Err fault) is made = absurd (cc)
+
+few_command : (found : Option (Text × List Row)) (site : Text) (feeds : List Text) → plan_of_command found ≡ Ok (Replay site feeds) → length feeds ≤ MOST_FEEDS
+few_command None site feeds is = absurd (cc)
+few_command (Some found) site feeds is = few_replayed (bytes_eq found.0 (codes "run")) found.1 site feeds (counted (feeds_of found.1)) refl (sym (same_command (bytes_eq found.0 (codes "run")) found.1) ∙ is)
+
+pub few_feeds : (words : List Text) (site : Text) (feeds : List Text) → plan_of words ≡ Ok (Replay site feeds) → length feeds ≤ MOST_FEEDS
+few_feeds words site feeds is = few_command (subcommand_of safetynets words) site feeds (unless_taken (fault_of safetynets words) (plan_of_command (subcommand_of safetynets words)) (Replay site feeds) is)

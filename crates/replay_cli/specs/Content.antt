@@ -1,6 +1,6 @@
 -- The content of a feed: the records of its blocks of category 062, what is refused of them, and how it ends (this project's profile).
-use Rattle.std.specs.Prelude.{ℕ, ◌+◌, ◌==◌, Bool, true, false, not, List, [], ◌∷◌, count_by, if◌then◌else◌}
-use Rattle.std.specs.List.{flat_map, cons_option}
+use Rattle.std.specs.Prelude.{ℕ, ◌+◌, ◌==◌, Bool, true, false, not, List, [], ◌∷◌, count_by, map, if◌then◌else◌}
+use Rattle.std.specs.List.{flat_map, cons_option, list_all}
 use Rattle.asterix_blocks.specs.declared.blocks.Block.{Block}
 use Rattle.asterix_blocks.specs.declared.blocks.End.{End}
 use Rattle.asterix_blocks.specs.declared.blocks.End.TheVariants.{Clean, Truncated, BadLength}
@@ -58,5 +58,8 @@ abbrev pub is_intact : List Refused → End → Bool
 is_intact [] end = is_clean end
 is_intact (refused ∷ others) end = false
 
-abbrev pub feed_is_intact : List ℕ → Bool
-feed_is_intact feed = is_intact (content feed).refused (content feed).end
+abbrev pub are_intact : List Content → Bool
+are_intact feeds = list_all (λ feed. is_intact feed.refused feed.end) feeds
+
+abbrev pub feeds_are_intact : List (List ℕ) → Bool
+feeds_are_intact feeds = are_intact (map content feeds)

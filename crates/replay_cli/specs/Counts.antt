@@ -1,5 +1,6 @@
--- The report of a feed (this project's profile).
-use Rattle.std.specs.Prelude.{ℕ, zero, suc, List, [], ◌∷◌, length, take}
+-- The report of a run's feeds (this project's profile).
+use Rattle.std.specs.Prelude.{ℕ, nat_lt, List, length, map, take, if◌then◌else◌}
+use Rattle.std.specs.List.{list_any}
 use Rattle.site_params.specs.declared.site.Site.{Site}
 use Rattle.replay_cli.specs.Content.{Content, content}
 use Rattle.replay_cli.specs.Reference.{events_in, tracks}
@@ -19,18 +20,19 @@ feed_count found tracks = record {
   end = found.end;
 }
 
+abbrev pub count_in : Site → Content → FeedCount
+count_in site found = feed_count found (length (tracks site found))
+
 -- cycle 0 alone is made, and none without a usable record
-abbrev pub cycles_of : ℕ → ℕ
-cycles_of zero = 0
-cycles_of (suc more) = 1
+abbrev pub cycles_of : List FeedCount → ℕ
+cycles_of feeds = if list_any (λ feed. nat_lt 0 feed.tracks) feeds then 1 else 0
 
--- the report of a feed of this content, of whose usable records there are so many, and in which so many alerts begin:
--- each has one message so far
-abbrev pub report_by : Content → ℕ → ℕ → Report
-report_by found tracks firsts = record { cycles = cycles_of tracks; feeds = feed_count found tracks ∷ []; firsts = firsts; messages = firsts }
+-- the report of feeds in which so many alerts begin: each has one message so far
+abbrev pub report_by : List FeedCount → ℕ → Report
+report_by feeds firsts = record { cycles = cycles_of feeds; feeds = feeds; firsts = firsts; messages = firsts }
 
-abbrev pub report_in : Site → Content → Report
-report_in site found = report_by found (length (tracks site found.records)) (length (events_in site found.records))
+abbrev pub report_in : Site → List Content → Report
+report_in site feeds = report_by (map (count_in site) feeds) (length (events_in site feeds))
 
-abbrev pub report_of : Site → List ℕ → Report
-report_of site feed = report_in site (content feed)
+abbrev pub report_of : Site → List (List ℕ) → Report
+report_of site feeds = report_in site (map content feeds)

@@ -1,44 +1,28 @@
--- A cycle: the rows of its table, those that are eligible, the hits of all pairs, and the events (this project's profile).
-use Rattle.std.specs.Prelude.{ℕ, ◌%◌, ◌^◌, IfSome, Bool, false, ◌&&◌, not, List, [], ◌∷◌, ◌++◌, map, get_or, Option, Some, None, ℤ, ◌+ℤ◌, ◌-ℤ◌, ◌==◌, int_le, if◌then◌else◌}
-use Rattle.std.specs.List.{filter_map, fold, enumerate_from, list_any, slice_get}
+-- A cycle: the rows of its table that the nets look at, the hits of all pairs, and the events (this project's profile).
+use Rattle.std.specs.Prelude.{ℕ, ◌+◌, ◌%◌, ◌^◌, ◌==◌, IfSome, Bool, false, ◌&&◌, ◌||◌, not, List, [], ◌∷◌, ◌++◌, filter, get_or, map, Option, Some, None, ℤ, unsigned_abs, if◌then◌else◌}
+use Rattle.std.specs.List.{filter_map, enumerate_from, list_any, slice_get}
 use Rattle.std.specs.Option.{option_map, option_map_or}
-use Rattle.std.specs.declared.cmp.Ordering.{Ordering}
-use Rattle.std.specs.Ordering.{nat_cmp, ordering_then}
-use Rattle.std.specs.BTreeMap.{insert_entry}
-use Rattle.track_motion.specs.declared.track.Track.{Track}
-use Rattle.track_motion.specs.declared.track.TrackKey.{TrackKey}
+use Rattle.cat004_write.specs.declared.event.Event.{Event}
+use Rattle.cat004_write.specs.declared.event.HitData.{HitData}
 use Rattle.cat004_write.specs.declared.event.Net.TheVariants.{Stca}
 use Rattle.cat004_write.specs.declared.event.Status.TheVariants.{First}
-use Rattle.cat004_write.specs.declared.event.Event.{Event}
+use Rattle.cat004_write.specs.declared.event.TheConstants.{CURRENT_PROXIMITY, URGENT}
 use Rattle.cat004_write.specs.Messages.{FitsOctets}
+use Rattle.site_params.specs.declared.site.Set.{Set}
+use Rattle.site_params.specs.declared.site.Site.{Site}
+use Rattle.site_params.specs.declared.site.TheConstants.{STCA}
+use Rattle.stca_fine.specs.declared.hit.StcaHit.{StcaHit}
+use Rattle.stca_fine.specs.Stca.{stca_hit}
+use Rattle.track_motion.specs.declared.rank.Stamped.{Stamped}
+use Rattle.track_motion.specs.declared.track.Track.{Track}
+use Rattle.track_motion.specs.Motions.{motion_at}
+use Rattle.track_table.specs.Times.{cycle_time}
 use Rattle.replay_cli.specs.declared.cycle.Hit.{Hit}
 use Rattle.replay_cli.specs.declared.cycle.Mover.{Mover}
-use Rattle.site_params.specs.declared.site.Site.{Site}
-use Rattle.replay_cli.specs.declared.table.Row.{Row}
-use Rattle.site_params.specs.declared.site.Set.{Set}
-use Rattle.site_params.specs.declared.site.TheConstants.{STCA}
-use Rattle.replay_cli.specs.Motions.{motion_at}
-use Rattle.replay_cli.specs.Stca.{stca_hit}
-
--- keys in order: by system area code, then system identification code, then number
-abbrev pub key_cmp : TrackKey → TrackKey → Ordering
-key_cmp a b = ordering_then (nat_cmp a.sac b.sac) (ordering_then (nat_cmp a.sic b.sic) (nat_cmp a.number b.number))
-
--- rows in order, by their keys
-abbrev pub row_cmp : Row → Row → Ordering
-row_cmp a b = key_cmp a.track.key b.track.key
-
--- each row with its key
-abbrev pub entries_of : List Row → List (TrackKey × Row)
-entries_of rows = map (λ row. (row.track.key, row)) rows
-
--- the table of supported records, no two of which have one key: each key with its row, in key order
-abbrev pub table : List Row → List (TrackKey × Row)
-table rows = fold (λ entries row. insert_entry key_cmp entries row.track.key row) [] rows
 
 -- when cycle 0 ends and its table is taken
-abbrev pub cycle_time : Site → ℤ
-cycle_time site = site.start +ℤ site.period
+abbrev pub taken_at : Site → ℤ
+taken_at site = cycle_time site.start site.period 0
 
 -- the parameter set of all rows so far: the first of the site's
 abbrev pub base_set : Site → Option Set
@@ -52,29 +36,41 @@ is_enabled site = option_map_or (λ set. get_or set.enabled STCA false) (base_se
 abbrev pub is_left_out : Site → Option ℕ → Bool
 is_left_out site code = option_map_or (λ c. list_any (λ d. d == c) site.codes) code false
 
--- a row of the cycle: its track hasn't ended, and its stamp is not longer ago than the site's timeout
-abbrev pub is_recent : Site → Row → Bool
-is_recent site row = not row.track.ended && int_le (cycle_time site -ℤ row.at) site.timeout
-
--- a row that the nets look at: its set enables the net, it isn't tentative and isn't simulated, and its code isn't left out
+-- a track that the nets look at: its set enables the net, it isn't tentative and isn't simulated, and its code isn't left out
 abbrev pub is_eligible : Site → Track → Bool
 is_eligible site track = is_enabled site && not track.tentative && not track.simulated && not (is_left_out site track.code)
 
--- the eligible rows with a level, each with its motion at the cycle's time
-abbrev pub mover_of : Site → TrackKey × Row → Option Mover
-mover_of site entry =
-    if is_recent site entry.1 && is_eligible site entry.1.track
-    then option_map (λ motion. record { key = entry.0; motion = motion }) (motion_at entry.1.track entry.1.at (cycle_time site))
+-- the eligible rows with a level, each with its motion when the table is taken
+abbrev pub mover_of : Site → Stamped → Option Mover
+mover_of site row =
+    if is_eligible site row.track
+    then option_map (λ motion. record { key = row.track.key; motion = motion }) (motion_at row (taken_at site))
     else None
 
-abbrev pub movers : Site → List (TrackKey × Row) → List Mover
-movers site entries = filter_map (mover_of site) entries
+abbrev pub movers : Site → List Stamped → List Mover
+movers site rows = filter_map (mover_of site) rows
+
+-- the flags of a hit: urgent, and in current proximity
+abbrev pub flags : StcaHit → ℕ
+flags hit = (if hit.urgent then URGENT else 0) + (if hit.current then CURRENT_PROXIMITY else 0)
+
+-- the figures of a hit as its message tells them
+abbrev pub figures : StcaHit → HitData
+figures hit = record {
+  first = unsigned_abs hit.first;
+  closest = unsigned_abs hit.closest;
+  chs = hit.chs;
+  mhs = hit.mhs;
+  cvs = hit.cvs;
+  mvs = hit.mvs;
+  flags = flags hit;
+}
 
 -- the hit of a pair, the one with the lower key first
 abbrev pub hit_of : Set → Mover → Mover → Option Hit
 hit_of set a b =
     option_map
-    (λ figures. record { subject = record { net = Stca; key = a.key; other = b.key; object = 0 }; figures = figures })
+    (λ hit. record { subject = record { net = Stca; key = a.key; other = b.key; object = 0 }; urgent = hit.urgent; figures = figures hit })
     (stca_hit a.motion b.motion set)
 
 -- the hits of all pairs, in the order of their first keys and then of their second
@@ -85,12 +81,20 @@ hits set (a ∷ others) = filter_map (hit_of set a) others ++ hits set others
 abbrev pub hits_of : Site → List Mover → List Hit
 hits_of site movers = option_map_or (λ set. hits set movers) (base_set site) []
 
--- a First event for each hit, with the alerts' numbers in order, modulo 65,536
+-- the site wants no second hit before an alert begins
+abbrev pub is_one_enough : Site → Bool
+is_one_enough site = option_map_or (λ confirm. confirm.m == 1) (slice_get site.confirm STCA) false
+
+-- an alert begins with the first hit where that is urgent, or where one hit is enough
+abbrev pub is_on : Site → Hit → Bool
+is_on site hit = hit.urgent || is_one_enough site
+
+-- a First event for each alert that begins, with the alerts' numbers in order, modulo 65,536
 abbrev pub first_event : ℕ × Hit → Event
 first_event hit = record { subject = hit.1.subject; status = First; id = hit.0 % 2 ^ 16; hit = Some hit.1.figures }
 
-abbrev pub events : List Hit → List Event
-events hs = map first_event (enumerate_from 0 hs)
+abbrev pub events : Site → List Hit → List Event
+events site hs = map first_event (enumerate_from 0 (filter (is_on site) hs))
 
 -- the figures of an event fit the octets of its message
 abbrev pub FitsMessage : Event → Type 0

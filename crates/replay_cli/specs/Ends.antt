@@ -1,14 +1,14 @@
 -- How a run ends: what each way of ending says of what the run found and left (this project's profile).
-use Rattle.std.specs.Prelude.{◌≡◌, ◌⊎◌, ℕ, Bool, true, false, List, [], ◌∷◌, Option, Result, Ok, Err, MatchResult, Contains, ⊤, if◌then◌else◌}
+use Rattle.std.specs.Prelude.{◌≡◌, ◌⊎◌, ℕ, Bool, List, map, Option, Result, Ok, Err, MatchResult, Contains, ⊤, if◌then◌else◌}
 use Rattle.std.specs.Io.KnownBytes.{Appends}
 use Rattle.outside_io.specs.Bytes.{AppendsPrefix}
 use Rattle.outside_io.specs.Faults.{Rose}
 use Rattle.site_params.specs.declared.fault.SiteFault.{SiteFault}
 use Rattle.replay_cli.specs.Content.{content}
 use Rattle.replay_cli.specs.FaultTexts.{text_of_fault, write_failed_text}
-use Rattle.replay_cli.specs.Found.{Found, OtherWords, Untold, Lacking, Refused, Several, Given, found, names_of, request, IsLacking}
+use Rattle.replay_cli.specs.Found.{Found, OtherWords, Untold, Lacking, Refused, Given, found, names_of, request, IsLacking}
 use Rattle.replay_cli.specs.Outcomes.{IsReport, Sunk, Takes}
-use Rattle.replay_cli.specs.Reference.{reference, FeedIsSupported}
+use Rattle.replay_cli.specs.Reference.{reference, FeedsAreSupported}
 use Rattle.replay_cli.specs.Run.{Files}
 use Rattle.replay_cli.specs.Stops.{stop_status}
 use Rattle.replay_cli.specs.Works.{IsWork}
@@ -16,12 +16,6 @@ use Rattle.replay_cli.specs.declared.texts.FaultText.{FaultText}
 use Rattle.replay_cli.specs.declared.texts.FaultText.TheVariants.{Usage, NotBuilt, CannotOpen, ReadFailed, WriteFailed, NoMemory}
 use Rattle.replay_cli.specs.declared.texts.FaultText.TheVariants as texts
 use Rattle.replay_cli.specs.declared.work.Work.{Work}
-
--- the only one of some names
-abbrev pub only_one : List (List ℕ) → Result (List ℕ) FaultText
-only_one [] = Err NotBuilt
-only_one (name ∷ []) = Ok name
-only_one (name ∷ other ∷ names) = Err NotBuilt
 
 -- a count of faults before the run and after it
 pub record Change : Type 0 where
@@ -49,14 +43,13 @@ abbrev pub status_of : Result Work FaultText → ℕ
 status_of (Ok work) = status_done work.is_intact
 status_of (Err stopped) = stop_status stopped
 
--- done: this is the feed's work, and its alert bytes were written
+-- done: this is the feeds' work, and their alert bytes were written
 abbrev pub Completes : Found → Sunk → Work → Type 0
 Completes OtherWords out work = ⊥
 Completes Untold out work = IsReport Untold work.report.items
 Completes (Lacking name) out work = ⊥
 Completes (Refused fault) out work = ⊥
-Completes Several out work = ⊥
-Completes (Given site feed) out work = IsWork site (content feed) work × Appends out.before out.after (reference site feed)
+Completes (Given site feeds) out work = IsWork site (map content feeds) work × Appends out.before out.after (reference site feeds)
 
 -- a write failed in the middle of this
 abbrev pub Breaks : Found → Sunk → Type 0
@@ -64,8 +57,7 @@ Breaks OtherWords out = ⊥
 Breaks Untold out = (report : List ℕ) × IsReport Untold report
 Breaks (Lacking name) out = ⊥
 Breaks (Refused fault) out = ⊥
-Breaks Several out = ⊥
-Breaks (Given site feed) out = FeedIsSupported site feed × AppendsPrefix out.before out.after (reference site feed)
+Breaks (Given site feeds) out = FeedsAreSupported site feeds × AppendsPrefix out.before out.after (reference site feeds)
 
 -- the site file is refused for this fault
 abbrev pub RefusesSite : Found → SiteFault → Type 0
@@ -73,8 +65,7 @@ RefusesSite OtherWords fault = ⊥
 RefusesSite Untold fault = ⊤
 RefusesSite (Lacking name) fault = ⊥
 RefusesSite (Refused first) fault = fault ≡ first
-RefusesSite Several fault = ⊥
-RefusesSite (Given site feed) fault = ⊥
+RefusesSite (Given site feeds) fault = ⊥
 
 -- what the words ask for isn't built
 abbrev pub IsNotBuilt : Found → Type 0
@@ -82,8 +73,7 @@ IsNotBuilt OtherWords = ⊥
 IsNotBuilt Untold = ⊤
 IsNotBuilt (Lacking name) = ⊥
 IsNotBuilt (Refused fault) = ⊥
-IsNotBuilt Several = ⊤
-IsNotBuilt (Given site feed) = FeedIsSupported site feed → ⊥
+IsNotBuilt (Given site feeds) = FeedsAreSupported site feeds → ⊥
 
 -- the words ask for something that is done here
 abbrev pub IsAsked : Found → Type 0
@@ -91,8 +81,7 @@ IsAsked OtherWords = ⊥
 IsAsked Untold = ⊤
 IsAsked (Lacking name) = ⊤
 IsAsked (Refused fault) = ⊤
-IsAsked Several = ⊤
-IsAsked (Given site feed) = ⊤
+IsAsked (Given site feeds) = ⊤
 
 -- stopped, by its cause
 abbrev pub StopsBy : FaultText → Ran → Type 0

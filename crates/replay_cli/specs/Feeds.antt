@@ -1,6 +1,6 @@
 -- What was read of a source and of a name, where their bytes are told (this project's profile).
-use Rattle.std.specs.Prelude.{◌≡◌, ℕ, ◌+◌, ◌-◌, ◌^◌, ◌≤◌, Bool, not, min, List, length, take, count_by, Option, Some, None, IfSome, ⊤, if◌then◌else◌}
-use Rattle.std.specs.List.{flat_map}
+use Rattle.std.specs.Prelude.{◌≡◌, ℕ, ◌+◌, ◌-◌, ◌^◌, ◌≤◌, Bool, not, min, List, length, map, take, count_by, Option, Some, None, IfSome, ⊤, if◌then◌else◌}
+use Rattle.std.specs.List.{All, filter_map, flat_map}
 use Rattle.std.specs.Io.KnownBytes.{Consumes}
 use Rattle.outside_io.specs.Names.{bytes_of}
 use Rattle.asterix_blocks.specs.declared.blocks.Block.{Block}
@@ -8,9 +8,10 @@ use Rattle.asterix_blocks.specs.declared.blocks.End.{End}
 use Rattle.asterix_blocks.specs.Cutting.{Cuts}
 use Rattle.asterix_blocks.specs.Framing.{blocks}
 use Rattle.asterix_blocks.specs.Held.{Held}
+use Rattle.cat062_read.specs.Tracks.{IsPlaced}
 use Rattle.replay_cli.specs.declared.input.Gathered.{Gathered}
 use Rattle.replay_cli.specs.Content.{Content, content, is_of_category, records_of, refusals_of}
-use Rattle.replay_cli.specs.Run.{Files, feed_of}
+use Rattle.replay_cli.specs.Run.{Files, feed_of, first_lacking, read_of}
 
 -- a count as 64 bits tell it
 abbrev pub told_count : ℕ → ℕ
@@ -57,7 +58,16 @@ abbrev pub ReadsNamed : Option Files → List ℕ → Content → Type 0
 ReadsNamed None name input = ⊤
 ReadsNamed (Some files) name input = (bytes : List ℕ) × (bytes_of name files ≡ Some bytes) × (input ≡ content (feed_of bytes))
 
+-- these are the contents of the bytes under the names, none of which is lacking
+abbrev pub ReadsEach : Option Files → List (List ℕ) → List Content → Type 0
+ReadsEach None names inputs = ⊤
+ReadsEach (Some files) names inputs = (first_lacking files names ≡ None) × (inputs ≡ map content (filter_map (read_of files) names))
+
 -- this is the text under the name, or as much of it as is read
 abbrev pub TextOf : Option Files → List ℕ → ℕ → List ℕ → Type 0
 TextOf None name most text = ⊤
 TextOf (Some files) name most text = (bytes : List ℕ) × (bytes_of name files ≡ Some bytes) × (text ≡ take most bytes)
+
+-- each record of the feeds is placed as its octets can say
+abbrev pub ArePlaced : List Content → Type 0
+ArePlaced feeds = All (λ feed. All IsPlaced feed.records) feeds

@@ -1,5 +1,6 @@
 -- What a run finds: what its words ask for, and what the world tells of the names in them (this project's profile).
 use Rattle.std.specs.Prelude.{ℕ, List, [], ◌∷◌, Option, Some, None, Result, Ok, Err}
+use Rattle.std.specs.List.{filter_map}
 use Rattle.std.specs.Option.{option_map}
 use Rattle.outside_io.specs.Names.{bytes_of}
 use Rattle.site_params.specs.declared.fault.SiteFault.{SiteFault}
@@ -7,7 +8,7 @@ use Rattle.site_params.specs.declared.site.Site.{Site}
 use Rattle.site_params.specs.Kinds.{Reading}
 use Rattle.site_params.specs.Site.{site_of_text}
 use Rattle.replay_cli.specs.Plans.{plan_of}
-use Rattle.replay_cli.specs.Run.{Files, feed_of}
+use Rattle.replay_cli.specs.Run.{Files, first_lacking, read_of}
 use Rattle.replay_cli.specs.declared.request.Request.{Request}
 use Rattle.replay_cli.specs.declared.words.plan.Plan.{Plan}
 use Rattle.replay_cli.specs.declared.words.plan.Plan.TheVariants.{Replay, Run}
@@ -32,23 +33,19 @@ pub data Found : Type 0 where
   Lacking : List ℕ → Found
   -- the site file is refused
   Refused : SiteFault → Found
-  -- there are several feeds, which isn't built
-  Several : Found
-  -- the site, and what is read of the feed
-  Given : Site → List ℕ → Found
+  -- the site, and what is read of each feed
+  Given : Site → List (List ℕ) → Found
 
 -- under an accepted site
-abbrev pub found_feed : Site → List ℕ → Option (List ℕ) → Found
-found_feed site name None = Lacking name
-found_feed site name (Some bytes) = Given site (feed_of bytes)
+abbrev pub found_unless : Option (List ℕ) → Site → List (List ℕ) → Found
+found_unless (Some name) site feeds = Lacking name
+found_unless None site feeds = Given site feeds
 
-abbrev pub found_feeds : List (List ℕ × List ℕ) → Site → List (List ℕ) → Found
-found_feeds files site [] = Several
-found_feeds files site (name ∷ []) = found_feed site name (bytes_of name files)
-found_feeds files site (name ∷ other ∷ names) = Several
+abbrev pub found_feeds : Files → Site → List (List ℕ) → Found
+found_feeds files site names = found_unless (first_lacking files names) site (filter_map (read_of files) names)
 
 -- by what the site's file is
-abbrev pub found_site : List (List ℕ × List ℕ) → Request → Option (Reading Site) → Found
+abbrev pub found_site : Files → Request → Option (Reading Site) → Found
 found_site files r None = Lacking r.site
 found_site files r (Some (Err fault)) = Refused fault
 found_site files r (Some (Ok site)) = found_feeds files site r.feeds
@@ -69,14 +66,13 @@ abbrev pub names_of : Option Request → List (List ℕ)
 names_of None = []
 names_of (Some r) = r.site ∷ r.feeds
 
--- what holds of the site and the feed, where these are told
-abbrev pub IfGiven : Found → (Site → List ℕ → Type 0) → Type 0
-IfGiven (Given site feed) P = P site feed
+-- what holds of the site and the feeds, where these are told
+abbrev pub IfGiven : Found → (Site → List (List ℕ) → Type 0) → Type 0
+IfGiven (Given site feeds) P = P site feeds
 IfGiven OtherWords P = Unit {0}
 IfGiven Untold P = Unit {0}
 IfGiven (Lacking name) P = Unit {0}
 IfGiven (Refused fault) P = Unit {0}
-IfGiven Several P = Unit {0}
 
 -- a name is lacking
 abbrev pub IsLacking : Found → Type 0
@@ -84,5 +80,4 @@ IsLacking (Lacking name) = Unit {0}
 IsLacking OtherWords = ⊥
 IsLacking Untold = ⊥
 IsLacking (Refused fault) = ⊥
-IsLacking Several = ⊥
-IsLacking (Given site feed) = ⊥
+IsLacking (Given site feeds) = ⊥

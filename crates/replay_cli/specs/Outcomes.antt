@@ -5,15 +5,15 @@ use Rattle.outside_io.specs.Bytes.{AppendsPrefix}
 use Rattle.outside_io.specs.Faults.{Rose}
 use Rattle.site_params.specs.declared.fault.SiteFault.{SiteFault}
 use Rattle.site_params.specs.declared.site.Site.{Site}
-use Rattle.replay_cli.specs.Content.{feed_is_intact}
+use Rattle.replay_cli.specs.Content.{feeds_are_intact}
 use Rattle.replay_cli.specs.FaultTexts.{cannot_open, not_built_text, out_of_memory_text, read_failed, site_text, usage_text, write_failed_text}
-use Rattle.replay_cli.specs.Found.{Found, OtherWords, Untold, Lacking, Refused, Several, Given}
-use Rattle.replay_cli.specs.Reference.{reference, FeedIsSupported}
+use Rattle.replay_cli.specs.Found.{Found, OtherWords, Untold, Lacking, Refused, Given}
+use Rattle.replay_cli.specs.Reference.{reference, FeedsAreSupported}
 use Rattle.replay_cli.specs.Counts.{report_of}
 use Rattle.replay_cli.specs.ReportText.{text_of}
 use Rattle.replay_cli.specs.declared.report.counts.Report.{Report}
 
--- the work was done: nothing of the feed is refused and it ends behind a whole block, or not
+-- the work was done: nothing of the feeds is refused and each ends behind a whole block, or not
 abbrev pub IsDone : ℕ → Type 0
 IsDone status = (status ≡ 0) ⊎ (status ≡ 7)
 
@@ -21,13 +21,14 @@ IsDone status = (status ≡ 0) ⊎ (status ≡ 7)
 abbrev pub IsRefused : ℕ → Type 0
 IsRefused status = (status ≡ 3) ⊎ (status ≡ 4) ⊎ (status ≡ 6)
 
--- what a status says of a feed under a site: at 3 it isn't supported; at 0, 5 and 7 it is; at 0 it is intact, and at 7 it isn't
-pub record JudgesFeed (site : Site) (feed : List ℕ) (status : ℕ) : Type 0 where
+-- what a status says of feeds under a site: at 3 they aren't supported; at 0, 5 and 7 they are; at 0 they are intact,
+-- and at 7 they aren't
+pub record JudgesFeeds (site : Site) (feeds : List (List ℕ)) (status : ℕ) : Type 0 where
   pub words : status ≢ 2
-  pub refused : status ≡ 3 → FeedIsSupported site feed → ⊥
-  pub intact : status ≡ 0 → FeedIsSupported site feed × (feed_is_intact feed ≡ true)
-  pub damaged : status ≡ 7 → FeedIsSupported site feed × (feed_is_intact feed ≡ false)
-  pub cut_off : status ≡ 5 → FeedIsSupported site feed
+  pub refused : status ≡ 3 → FeedsAreSupported site feeds → ⊥
+  pub intact : status ≡ 0 → FeedsAreSupported site feeds × (feeds_are_intact feeds ≡ true)
+  pub damaged : status ≡ 7 → FeedsAreSupported site feeds × (feeds_are_intact feeds ≡ false)
+  pub cut_off : status ≡ 5 → FeedsAreSupported site feeds
 
 -- which statuses may come for what was found
 abbrev pub Judges : Found → ℕ → Type 0
@@ -35,8 +36,7 @@ Judges OtherWords status = (status ≡ 2) ⊎ (status ≡ 6)
 Judges Untold status = status ≢ 2
 Judges (Lacking name) status = (status ≡ 4) ⊎ (status ≡ 6)
 Judges (Refused fault) status = IsRefused status
-Judges Several status = IsRefused status
-Judges (Given site feed) status = JudgesFeed site feed status
+Judges (Given site feeds) status = JudgesFeeds site feeds status
 
 -- a sink before a run and after it: what it took, and its count of faults
 pub record Sunk : Type 0 where
@@ -55,29 +55,27 @@ pub record WritesAlerts (status : ℕ) (out : Sunk) (alerts : List ℕ) : Type 0
   pub done : IsDone status → Appends out.before out.after alerts
   pub unbroken : status ≡ 5 → (Rose out.faults_before out.faults_after → ⊥) → Appends out.before out.after alerts
 
--- so it is of a supported feed
-abbrev pub Serves : ℕ → Sunk → Site → List ℕ → Type 0
-Serves status out site feed = FeedIsSupported site feed → WritesAlerts status out (reference site feed)
+-- so it is of supported feeds
+abbrev pub Serves : ℕ → Sunk → Site → List (List ℕ) → Type 0
+Serves status out site feeds = FeedsAreSupported site feeds → WritesAlerts status out (reference site feeds)
 
 -- ---- the text that is due on `report`
 
--- the report of the feed, where it is told
+-- the report of the feeds, where they are told
 abbrev pub IsReport : Found → List ℕ → Type 0
-IsReport (Given site feed) text = text ≡ text_of (report_of site feed)
+IsReport (Given site feeds) text = text ≡ text_of (report_of site feeds)
 IsReport OtherWords text = ⊥
 IsReport Untold text = (report : Report) × (text ≡ text_of report)
 IsReport (Lacking name) text = ⊥
 IsReport (Refused fault) text = ⊥
-IsReport Several text = ⊥
 
--- why the site or its feed is refused
+-- why the site or its feeds are refused
 abbrev pub IsRefusal : Found → List ℕ → Type 0
-IsRefusal (Given site feed) text = text ≡ not_built_text
+IsRefusal (Given site feeds) text = text ≡ not_built_text
 IsRefusal OtherWords text = ⊥
 IsRefusal Untold text = (text ≡ not_built_text) ⊎ ((fault : SiteFault) × (text ≡ site_text fault))
 IsRefusal (Lacking name) text = ⊥
 IsRefusal (Refused fault) text = text ≡ site_text fault
-IsRefusal Several text = text ≡ not_built_text
 
 -- which of the names wasn't opened or read
 abbrev pub IsUnread : List (List ℕ) → List ℕ → Type 0

@@ -1,24 +1,29 @@
--- What the code relies on of a site and of the rows of a table (the ranges are this project's profile).
-use Rattle.std.specs.Prelude.{◌≤◌, pos, ◌≤ℤ◌, ◌<ℤ◌, ◌+ℤ◌, unsigned_abs}
-use Rattle.track_motion.specs.Tracks.{IsInPlane, IsLevelled}
+-- What the stages of a cycle rely on of a site, and how a table takes records (the ranges are this project's profile).
+use Rattle.std.specs.Prelude.{◌≡◌, ◌≤◌, ◌++◌, List, pos, ◌≤ℤ◌, ◌<ℤ◌, unsigned_abs}
 use Rattle.site_params.specs.declared.site.Site.{Site}
-use Rattle.replay_cli.specs.declared.table.Row.{Row}
-use Rattle.replay_cli.specs.Cycle.{cycle_time}
-use Rattle.replay_cli.specs.declared.motion.TheConstants.{LONGEST_AGE}
-use Rattle.replay_cli.specs.Stamps.{day}
+use Rattle.track_motion.specs.declared.motion.TheConstants.{LONGEST_AGE}
+use Rattle.track_motion.specs.declared.rank.Stamped.{Stamped}
+use Rattle.track_table.specs.Held.{Held}
+use Rattle.track_table.specs.Kept.{StandsFor}
+use Rattle.track_table.specs.Proper.{IsTold}
+use Rattle.track_table.specs.Times.{day}
 
--- a site's times and correction, as the stages of a cycle rely on them
+-- a site's times and correction
 pub record IsTimed (site : Site) : Type 0 where
   pub start_low : pos 0 ≤ℤ site.start
   pub start_high : site.start <ℤ day
   pub period_low : pos 1 ≤ℤ site.period
   pub period_high : site.period ≤ℤ pos LONGEST_AGE
-  pub timeout : site.timeout ≤ℤ pos LONGEST_AGE
+  pub timeout_low : pos 1 ≤ℤ site.timeout
+  pub timeout_high : site.timeout ≤ℤ pos LONGEST_AGE
   pub qnh : unsigned_abs site.qnh ≤ 200
 
--- a row of cycle 0's table: its stamp is before the cycle's end, at a place and a level within what a record can say
-pub record IsRow (site : Site) (row : Row) : Type 0 where
-  pub long_ago : pos 0 ≤ℤ (row.at +ℤ day)
-  pub not_over : row.at <ℤ cycle_time site
-  pub place : IsInPlane row.track.x row.track.y
-  pub level : IsLevelled row.track
+-- a table with more records put into it
+pub record Puts (old new : Held) (stamps : List Stamped) : Type 0 where
+  pub stands : (puts : List Stamped) → StandsFor old puts → StandsFor new (puts ++ stamps)
+  pub others : new ≡ record old { kept = new.kept }
+
+-- a record as feeds tell it in cycle 0
+pub record IsOfCycle (site : Site) (s : Stamped) : Type 0 where
+  pub window : s.window ≡ 0
+  pub told : IsTold site.start site.period s

@@ -1,5 +1,5 @@
 -- Why a run stops before its work is done, and what each cause says (this project's profile).
-use Rattle.std.specs.Prelude.{◌≡◌, ◌⊎◌, ℕ, Bool, true, false, List, Option, Some, None, Result, Ok, Err, ⊤}
+use Rattle.std.specs.Prelude.{◌≡◌, ◌⊎◌, ℕ, Bool, true, false, List, Option, Some, None, Result, Ok, Err, Contains, ⊤}
 use Rattle.std.specs.Option.{option_map}
 use Rattle.outside_io.specs.Faults.{Rose}
 use Rattle.outside_io.specs.Names.{bytes_of, Lacks}
@@ -82,3 +82,7 @@ StopsSite files before after name (CannotOpen other) = StopsNamed files before a
 StopsSite files before after name (ReadFailed other) = StopsNamed files before after name (ReadFailed other)
 StopsSite files before after name WriteFailed = ⊥
 StopsSite files before after name NoMemory = ⊤
+
+-- nothing was read of one of the names
+abbrev pub StopsAmong : Option Files → ℕ → ℕ → List (List ℕ) → FaultText → Type 0
+StopsAmong files before after names e = (name : List ℕ) × Contains names name × StopsNamed files before after name e

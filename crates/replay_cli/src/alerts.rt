@@ -1,61 +1,67 @@
-//! From records to their alert bytes.
-ghost use Rattle.std.specs.Prelude.{◌≡◌, All, IfOk, IsErrOf, OnOk, length};
-ghost use Rattle.cat062_read.specs.Tracks.{IsPlaced};
-ghost use Rattle.site_params.specs.Ranges.{IsSite};
-ghost use Rattle.replay_cli.specs.Cycle.{hits_of};
-ghost use Rattle.replay_cli.specs.Reference.{alerts, events_in, tracks, AreSupported};
-ghost use Rattle.replay_cli.specs.Rows.{IsTimed};
-ghost use Rattle.replay_cli.specs.Stca.{IsPaired};
-ghost use Rattle.replay_cli.specs.Motions.{InRange};
-ghost use Rattle.cat004_write.specs.Messages.{FitsOctets};
+//! From the table of a cycle to its alert bytes.
+ghost use Rattle.std.specs.Prelude.{◌≡◌, ◌≤◌, All, IfOk, length};
 ghost use Rattle.std.specs.List.{AllByRecursion};
+ghost use Rattle.cat004_write.specs.Blocks.{pack};
+ghost use Rattle.cat004_write.specs.Messages.{FitsOctets};
+ghost use Rattle.site_params.specs.Ranges.{IsSite};
+ghost use Rattle.track_motion.specs.Motions.{CanMove, InRange};
+ghost use Rattle.replay_cli.specs.Cycle.{hits_of, taken_at};
+ghost use Rattle.replay_cli.specs.Reference.{events_at, messages};
 
 use crate::cycle::{Hit, Mover, base_set, blocks, events, hits, movers};
-use crate::table::{Unserved, table};
 use cat004_write::NoMemory;
-use cat062_read::Raw062;
+use outside_io::Steps;
 use site_params::Site;
 use std::alloc::Global;
+use std::sync::ledger::Ledger;
+use track_table::Frozen;
 
-/// What records come to: their alert bytes, how many alerts begin, and how many of the records are usable.
+/// What a cycle comes to: its alert bytes, and how many alerts begin in it.
 #[derive(Debug, Drop)]
 pub struct Alerts {
     pub bytes: Vec<u8>,
     pub firsts: usize,
-    pub tracks: usize,
 }
 
 /// The hits of all pairs under the rows' set.
-fn hits_in(alloc: Global, site: &Site, movers: &[Mover]) -> Result<Vec<Hit>, NoMemory>
+fn hits_in<L: Ledger>(
+    alloc: Global,
+    site: &Site,
+    movers: &[Mover],
+    steps: &mut Steps<L>,
+) -> Result<Vec<Hit>, NoMemory>
     requires site { IsSite site.now }
     requires movers { AllByRecursion (λ m. InRange m.motion) movers.now }
     ensures hits { IfOk result (λ v. v.items ≡ hits_of site.now movers.now) }
     ensures room { IfOk result (λ v. AllByRecursion (λ h. FitsOctets h.figures) v.items) }
+    ensures steps { steps.old ≤ steps.new }
 {
     match base_set(site) {
-        Some(set) => hits(alloc, set, movers),
+        Some(set) => hits(alloc, set, movers, steps),
         None => Ok(Vec::new(alloc)),
     }
 }
 
-/// The alert bytes of records: each stage of the reference in turn.
-pub fn alerts_of(alloc: Global, site: &Site, records: &[Raw062]) -> Result<Alerts, Unserved>
+/// The alert bytes of a cycle: each stage of the reference in turn.
+pub fn alerts_of<L: Ledger>(
+    alloc: Global,
+    site: &Site,
+    frozen: &Frozen,
+    steps: &mut Steps<L>,
+) -> Result<Alerts, NoMemory>
     requires site { IsSite site.now }
-    requires placed { All IsPlaced records.now }
-    ensures unsupported { IsErrOf result Unserved.Unsupported → AreSupported site.now records.now → ⊥ }
-    ensures supported { OnOk result (AreSupported site.now records.now) }
-    ensures bytes { IfOk result (λ found. found.bytes.items ≡ alerts site.now records.now) }
-    ensures firsts { IfOk result (λ found. found.firsts ≡ length (events_in site.now records.now)) }
-    ensures tracks { IfOk result (λ found. found.tracks ≡ length (tracks site.now records.now)) }
+    requires time { frozen.now.time ≡ taken_at site.now }
+    requires rows { All (λ r. CanMove r (taken_at site.now)) frozen.now.rows }
+    ensures bytes { IfOk result (λ found. found.bytes.items ≡ pack (messages site.now (events_at site.now frozen.now.rows))) }
+    ensures firsts { IfOk result (λ found. found.firsts ≡ length (events_at site.now frozen.now.rows)) }
+    ensures steps { steps.old ≤ steps.new }
 {
-    let rows = table(alloc, site, records)?;
-    let movers = movers(alloc, site, &rows)?;
-    let hits = hits_in(alloc, site, &movers)?;
-    let events = events(alloc, &hits)?;
-    let bytes = blocks(alloc, site, &events)?;
+    let movers = movers(alloc, site, frozen.rows.as_slice(), frozen.time)?;
+    let hits = hits_in(alloc, site, &movers, steps)?;
+    let events = events(alloc, site, &hits)?;
+    let bytes = blocks(alloc, site, &events, frozen.time)?;
     Ok(Alerts {
         bytes,
         firsts: events.len(),
-        tracks: rows.len(),
     })
 }

@@ -1,14 +1,15 @@
 //! The content of a feed.
-ghost use Rattle.std.specs.Prelude.{◌≡◌, All};
+ghost use Rattle.std.specs.Prelude.{◌≡◌, IfOk};
 ghost use Rattle.asterix_blocks.specs.declared.blocks.End.{End};
 ghost use Rattle.replay_cli.specs.Content.{is_intact as intact};
 ghost use Rattle.replay_cli.specs.Counts.{feed_count};
 ghost use Rattle.replay_cli.specs.Feeds.{content_as};
 
 use crate::input::Gathered;
-use crate::report::{FeedCount, MOST_REFUSALS, Refusals};
+use crate::report::{FeedCount, Refusals};
 use asterix_blocks::End;
 use cat062_read::Raw062;
+use std::alloc::{AllocError, Global};
 use std::marker::Model;
 
 /// The content of a feed: how many blocks it has of category 062 and of others, its records, what is refused
@@ -51,26 +52,23 @@ impl Input {
     }
 
     /// What a report says of the feed, where so many of its records are usable.
-    pub fn into_count(self, tracks: usize) -> FeedCount
-        ensures { result ≡ feed_count self tracks }
+    pub fn count(&self, alloc: Global, tracks: u64) -> Result<FeedCount, AllocError>
+        ensures { IfOk result (λ count. count ≡ feed_count self.now tracks) }
     {
-        let Input { gathered, end } = self;
         let Gathered {
             blocks,
             passed,
             records,
-            mut refused,
-        } = gathered;
-        let refusals = refused.len() as u64;
-        refused.truncate(MOST_REFUSALS as usize);
-        FeedCount {
-            blocks,
-            passed,
+            refused,
+        } = &self.gathered;
+        Ok(FeedCount {
+            blocks: *blocks,
+            passed: *passed,
             records: records.len() as u64,
-            tracks: tracks as u64,
-            refused: Refusals::new(refused),
-            refusals,
-            end,
-        }
+            tracks,
+            refused: Refusals::printed_of(alloc, refused.as_slice())?,
+            refusals: refused.len() as u64,
+            end: self.end,
+        })
     }
 }

@@ -2,18 +2,13 @@
 #![tactic(auto)]
 
 mod alerts;
-mod clock;
 mod content;
 pub mod cycle;
 mod input;
 pub mod laws;
-pub mod motion;
 mod named;
-mod relative;
 pub mod report;
 mod request;
-mod stca;
-mod supported;
 pub mod table;
 pub mod texts;
 mod top;
@@ -21,7 +16,7 @@ pub mod words;
 mod work;
 
 pub use report::{FeedCount, FeedCounts, Refusals, Report, report_text};
-pub use supported::unbuilt;
+pub use table::unbuilt;
 pub use texts::{FaultText, USAGE, tell};
 pub use top::replay_top;
 pub use words::{Plan, WordsFault, read_words};

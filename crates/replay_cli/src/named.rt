@@ -1,20 +1,20 @@
 //! What stands under a name: the site of a site file, and the content of a feed. What is opened is closed again,
 //! whatever came.
-ghost use Rattle.std.specs.Prelude.{◌≡◌, ◌≤◌, ◌⊎◌, false, All, Err, IfErr, IfOk, IsErrOf, Ok};
+ghost use Rattle.std.specs.Prelude.{◌≡◌, ◌≤◌, ◌⊎◌, false, length, All, Err, IfErr, IfOk, IsErrOf, Ok};
 ghost use Rattle.outside_io.specs.Faults.{Rose};
 ghost use Rattle.outside_io.specs.Names.{Lacks};
 ghost use Rattle.cat062_read.specs.Tracks.{IsPlaced};
 ghost use Rattle.site_params.specs.Ranges.{IsSite};
-ghost use Rattle.replay_cli.specs.Feeds.{ReadsNamed, TextOf};
-ghost use Rattle.replay_cli.specs.Stops.{IsReading, StopsNamed, StopsSite, fault_of, leaves_unread as unread, site_fault};
+ghost use Rattle.replay_cli.specs.Feeds.{ArePlaced, ReadsEach, ReadsNamed, TextOf};
+ghost use Rattle.replay_cli.specs.Stops.{IsReading, StopsAmong, StopsSite, fault_of, leaves_unread as unread, site_fault};
 
 use crate::content::Input;
 use crate::input::{Unread, read_text, read_whole};
 use crate::texts::FaultText;
-use crate::words::Name;
+use crate::words::{Name, Names};
 use outside_io::{OpenFault, World};
 use site_params::{SITE_ROOM, Site, SiteFault, read_site};
-use std::alloc::Global;
+use std::alloc::{AllocFailed, Global};
 
 impl From<OpenFault> for Unread {
     ghost use Rattle.replay_cli.specs.Stops.{GivesUnread};
@@ -39,6 +39,17 @@ impl Unread {
             Unread::Broken => FaultText::ReadFailed(name),
             Unread::NoMemory => FaultText::NoMemory,
         }
+    }
+}
+
+impl From<AllocFailed<Input>> for FaultText {
+    ghost use Rattle.std.specs.Prelude.{◌≡◌};
+    ghost use Rattle.replay_cli.specs.declared.texts.FaultText.TheVariants.{NoMemory};
+
+    ghost from_gives = { λ _ e. e ≡ NoMemory };
+
+    fn from(_: AllocFailed<Input>) -> Self {
+        FaultText::NoMemory
     }
 }
 
@@ -118,11 +129,16 @@ pub fn site_of<W: World>(alloc: Global, world: &mut W, name: Name) -> Result<Sit
     }
 }
 
-/// The content of the feed under a name.
-pub fn feed_of<W: World>(alloc: Global, world: &mut W, name: Name) -> Result<Input, FaultText>
-    ensures told { IfOk result (λ input. ReadsNamed (W.files world.old) name input) }
-    ensures placed { IfOk result (λ input. All IsPlaced input.records) }
-    ensures fault { IfErr result (StopsNamed (W.files world.old) (W.faults world.old) (W.faults world.new) name) }
+/// The contents of the feeds under these names, in order.
+pub fn feeds_of<W: World>(
+    alloc: Global,
+    world: &mut W,
+    names: Names,
+) -> Result<Vec<Input>, FaultText>
+    ensures told { IfOk result (λ inputs. ReadsEach (W.files world.old) names inputs.items) }
+    ensures placed { IfOk result (λ inputs. ArePlaced inputs.items) }
+    ensures count { IfOk result (λ inputs. length inputs.items ≡ length names) }
+    ensures fault { IfErr result (StopsAmong (W.files world.old) (W.faults world.old) (W.faults world.new) names) }
 
     // What stays as it was.
     ensures files { W.files world.new ≡ W.files world.old }
@@ -130,8 +146,13 @@ pub fn feed_of<W: World>(alloc: Global, world: &mut W, name: Name) -> Result<Inp
     ensures kept { unread result ≡ false → W.faults world.new ≡ W.faults world.old }
     ensures later { W.faults world.old ≤ W.faults world.new }
 {
-    match feed_under(alloc, world, name.as_str()) {
-        Ok(input) => Ok(input),
-        Err(unread) => Err(unread.of(name)),
+    let mut names = names.into_vec();
+    let mut inputs = Vec::new(alloc);
+    for i in 0..names.len() {
+        match feed_under(alloc, world, &names[i]) {
+            Ok(input) => inputs.push(input)?,
+            Err(unread) => return Err(unread.of(Name::new(names.swap_remove(i)))),
+        }
     }
+    Ok(inputs)
 }

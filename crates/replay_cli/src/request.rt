@@ -1,7 +1,8 @@
 //! What the command words ask to be replayed.
-ghost use Rattle.std.specs.Prelude.{◌≡◌, ◌⊎◌, None, Some, IfErr, IfOk};
+ghost use Rattle.std.specs.Prelude.{◌≡◌, ◌⊎◌, ◌≤◌, None, Some, IfErr, IfOk, length};
 ghost use Rattle.replay_cli.specs.Found.{request as requested};
 ghost use Rattle.replay_cli.specs.Words.{texts};
+ghost use Rattle.replay_cli.specs.declared.words.plan.TheConstants.{MOST_FEEDS};
 
 use crate::texts::FaultText;
 use crate::words::{Name, Names, Plan, WordsFault, read_words};
@@ -18,6 +19,7 @@ pub struct Request {
 #[tactic(auto, unfolding(crate::specs::Found::request))]
 pub fn asked(alloc: Global, words: &[String]) -> Result<Request, FaultText>
     ensures asked { IfOk result (λ r. requested (texts words.now) ≡ Some r) }
+    ensures few { IfOk result (λ r. length r.feeds ≤ MOST_FEEDS) }
     ensures fault { IfErr result (λ e. (e ≡ FaultText.NoMemory) ⊎ ((e ≡ FaultText.Usage) × (requested (texts words.now) ≡ None))) }
 {
     match read_words(alloc, words) {

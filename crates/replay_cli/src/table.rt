@@ -1,31 +1,29 @@
-//! The table of a cycle.
-ghost use Rattle.std.specs.Prelude.{◌≡◌, IfOk, IsErrOf, OnOk, All, length, vec_len};
+//! The table of cycle 0 over all feeds.
+ghost use Rattle.std.specs.Prelude.{◌≡◌, ◌≤◌, IfOk, IsErrOf, OnOk, All, length, map};
+ghost use Rattle.std.specs.Bool.{OnFalse, OnTrue};
 ghost use Rattle.cat062_read.specs.Tracks.{IsPlaced};
-ghost use Rattle.std.specs.Bool.{OnTrue, OnFalse};
-ghost use Rattle.std.specs.List.{IsDistinct};
-ghost use Rattle.std.specs.List.Sorted.{IsSorted, IsStrictlySortedBy};
-ghost use Rattle.std.specs.Ordering.{eq_by_cmp};
-ghost use Rattle.replay_cli.specs.Cycle.{entries_of, row_cmp, table as table_of};
-ghost use Rattle.replay_cli.specs.Reference.{tracks, AreSupported};
-ghost use Rattle.replay_cli.specs.Rows.{IsRow, IsTimed};
-ghost use Rattle.replay_cli.specs.Stamps.{rows_from};
+ghost use Rattle.site_params.specs.Ranges.{IsSite};
+ghost use Rattle.track_motion.specs.Motions.{CanMove};
+ghost use Rattle.replay_cli.specs.Counts.{count_in};
+ghost use Rattle.replay_cli.specs.Feeds.{ArePlaced};
+ghost use Rattle.replay_cli.specs.Cycle.{taken_at};
+ghost use Rattle.replay_cli.specs.Reference.{AreInCycle, AreSupported, rows, stamps, stamps_told, tracks_of};
+ghost use Rattle.replay_cli.specs.Rows.{IsOfCycle, IsTimed, Puts};
+ghost use Rattle.replay_cli.specs.declared.words.plan.TheConstants.{MOST_FEEDS};
 
-use crate::clock::at_near;
-use cat062_read::{Raw062, Track, track_of};
+use crate::content::Input;
+use crate::report::FeedCount;
+use cat062_read::{Raw062, track_of};
 use site_params::Site;
 use std::alloc::{AllocError, AllocFailed, Global};
+use track_motion::Stamped;
+use track_table::laws::{clock_in_reach, one_near_time, stamps_one_by_one, tables_are_proper};
+use track_table::{FeedClock, Frozen, Table};
 
-/// A track, and its stamp in ticks of 1/128 s.
-#[derive(Clone, Copy, Debug)]
-pub struct Row {
-    pub track: Track,
-    pub at: i64,
-}
-
-/// Why records have no table.
+/// Why feeds have no table.
 #[derive(Clone, Copy, Debug, PartialEq, Eq)]
 pub enum Unserved {
-    /// A stamp is after the cycle, or two records are of one track.
+    /// A track was told after cycle 0.
     Unsupported,
     /// Want of memory.
     NoMemory,
@@ -42,73 +40,97 @@ impl From<AllocError> for Unserved {
     }
 }
 
-impl From<AllocFailed<Row>> for Unserved {
+impl From<AllocFailed<FeedCount>> for Unserved {
     ghost use Rattle.std.specs.Prelude.{◌≡◌};
     ghost use Rattle.replay_cli.specs.declared.table.Unserved.TheVariants.{NoMemory};
 
     ghost from_gives = { λ _ e. e ≡ NoMemory };
 
-    fn from(_: AllocFailed<Row>) -> Self {
+    fn from(_: AllocFailed<FeedCount>) -> Self {
         Unserved::NoMemory
     }
 }
 
-/// The table of cycle 0: a row for each usable record, in key order.
-pub fn table(alloc: Global, site: &Site, records: &[Raw062]) -> Result<Vec<Row>, Unserved>
-    requires site { IsTimed site.now }
-    requires placed { All IsPlaced records.now }
-    ensures unsupported { IsErrOf result Unserved.Unsupported → AreSupported site.now records.now → ⊥ }
-    ensures supported { OnOk result (AreSupported site.now records.now) }
-    ensures rows { IfOk result (λ rows. entries_of rows.items ≡ table_of (rows_from site.now.start (tracks site.now records.now))) }
-    ensures each { IfOk result (λ rows. All (IsRow site.now) rows.items) }
-    ensures count { IfOk result (λ rows. vec_len rows ≡ length (tracks site.now records.now)) }
-{
-    let mut rows = rows_in_reading_order(alloc, site, records)?;
-    rows.sort_unstable_by_key(|row| row.track.key);
-    if has_equal_keys(&rows) {
-        return Err(Unserved::Unsupported);
-    }
-    Ok(rows)
+/// The table of cycle 0, and what was read of each feed.
+#[derive(Debug, Drop)]
+pub struct Tabled {
+    pub frozen: Frozen,
+    pub counts: Vec<FeedCount>,
 }
 
-/// A row for each usable record.
-fn rows_in_reading_order(
-    alloc: Global,
-    site: &Site,
-    records: &[Raw062],
-) -> Result<Vec<Row>, Unserved>
+/// Whether one of the tracks was told after cycle 0.
+pub fn unbuilt(stamps: &[Stamped]) -> bool
+    ensures late { OnTrue result (AreInCycle stamps.now → ⊥) }
+    ensures none { OnFalse result (AreInCycle stamps.now) }
+{
+    stamps.iter().any(|s| s.window > 0)
+}
+
+/// Puts the tracks of the feed of this number into the table, and answers how many there are.
+fn put_feed(site: &Site, feed: u32, records: &[Raw062], table: &mut Table) -> Result<u64, Unserved>
     requires site { IsTimed site.now }
     requires placed { All IsPlaced records.now }
-    ensures late { IsErrOf result Unserved.Unsupported → AreSupported site.now records.now → ⊥ }
-    ensures rows { IfOk result (λ rows. rows.items ≡ rows_from site.now.start (tracks site.now records.now)) }
-    ensures each { IfOk result (λ rows. All (IsRow site.now) rows.items) }
+    ensures unsupported { IsErrOf result Unserved.Unsupported → AreInCycle (stamps_told site.now feed records.now) → ⊥ }
+    ensures told { OnOk result (All (IsOfCycle site.now) (stamps_told site.now feed records.now)) }
+    ensures put { OnOk result (Puts table.old table.new (stamps_told site.now feed records.now)) }
+    ensures count { IfOk result (λ count. count ≡ length (tracks_of site.now records.now)) }
 {
-    let end = site.start + site.period;
-    let mut rows = Vec::new(alloc);
-    let mut present = site.start;
+    one_near_time();
+    stamps_one_by_one();
+    clock_in_reach();
+    let mut clock = FeedClock::new(site.start, site.period);
+    let mut count = 0;
     for raw in records {
         if let Some(track) = track_of(raw, site.qnh) {
-            let at = at_near(present, track.time);
-            if end <= at {
+            let stamp = clock.stamp(track, feed, count);
+            if unbuilt(&[stamp]) {
                 return Err(Unserved::Unsupported);
             }
-            present = present.max(at);
-            rows.push(Row { track, at })?;
+            table.put(stamp)?;
+            count += 1;
         }
     }
-    Ok(rows)
+    Ok(count)
 }
 
-/// Two rows that stand side by side are of one track.
-fn has_equal_keys(rows: &[Row]) -> bool
-    requires { IsSorted row_cmp rows.now }
-    ensures equal { OnTrue result (IsDistinct (eq_by_cmp row_cmp) rows.now → ⊥) }
-    ensures ascending { OnFalse result (IsStrictlySortedBy row_cmp rows.now) }
+/// Puts the tracks of all feeds into the table, and answers what was read of each.
+fn put_feeds(
+    alloc: Global,
+    site: &Site,
+    inputs: &[Input],
+    table: &mut Table,
+) -> Result<Vec<FeedCount>, Unserved>
+    requires site { IsTimed site.now }
+    requires placed { ArePlaced inputs.now }
+    requires few { length inputs.now ≤ MOST_FEEDS }
+    ensures unsupported { IsErrOf result Unserved.Unsupported → AreSupported site.now inputs.now → ⊥ }
+    ensures told { OnOk result (All (IsOfCycle site.now) (stamps site.now inputs.now)) }
+    ensures put { OnOk result (Puts table.old table.new (stamps site.now inputs.now)) }
+    ensures counts { IfOk result (λ counts. counts.items ≡ map (count_in site.now) inputs.now) }
 {
-    for i in 1..rows.len() {
-        if rows[i - 1].track.key == rows[i].track.key {
-            return true;
-        }
+    let mut counts = Vec::new(alloc);
+    for (feed, input) in inputs.iter().enumerate() {
+        let tracks = put_feed(site, feed as u32, input.records(), table)?;
+        counts.push(input.count(alloc, tracks)?)?;
     }
-    false
+    Ok(counts)
+}
+
+/// The table of cycle 0 over these feeds.
+pub fn table_of(alloc: Global, site: &Site, inputs: &[Input]) -> Result<Tabled, Unserved>
+    requires site { IsSite site.now }
+    requires placed { ArePlaced inputs.now }
+    requires few { length inputs.now ≤ MOST_FEEDS }
+    ensures unsupported { IsErrOf result Unserved.Unsupported → AreSupported site.now inputs.now → ⊥ }
+    ensures supported { OnOk result (AreSupported site.now inputs.now) }
+    ensures rows { IfOk result (λ told. told.frozen.rows ≡ rows site.now inputs.now) }
+    ensures time { IfOk result (λ told. told.frozen.time ≡ taken_at site.now) }
+    ensures moving { IfOk result (λ told. All (λ r. CanMove r (taken_at site.now)) told.frozen.rows) }
+    ensures counts { IfOk result (λ told. told.counts.items ≡ map (count_in site.now) inputs.now) }
+{
+    tables_are_proper();
+    let mut table = Table::new(alloc, site.start, site.period, site.timeout);
+    let counts = put_feeds(alloc, site, inputs, &mut table)?;
+    let frozen = table.freeze(0)?;
+    Ok(Tabled { frozen, counts })
 }

@@ -1,40 +1,29 @@
 //! The program as one function over words, a world and sinks.
-ghost use Rattle.std.specs.Prelude.{◌≡◌, ◌≢◌, ◌≤◌, ◌⊎◌, IfErr, IfOk, Some};
+ghost use Rattle.std.specs.Prelude.{◌≡◌, ◌≢◌, ◌≤◌, ◌⊎◌};
 ghost use Rattle.outside_io.specs.Faults.{Rose};
 ghost use Rattle.replay_cli.specs.Found.{found, names_of, request as requested, IfGiven, IsLacking};
 ghost use Rattle.replay_cli.specs.Outcomes.{Judges, Reports, Serves, sunk, IsDone};
-ghost use Rattle.replay_cli.specs.Ends.{Ends, Finishes, change, only_one, ran, status_done, status_of};
+ghost use Rattle.replay_cli.specs.Ends.{Ends, Finishes, change, ran, status_done, status_of};
 ghost use Rattle.replay_cli.specs.FaultTexts.{text_of_fault};
 ghost use Rattle.replay_cli.specs.Stops.{stop_status as status_stopped};
 ghost use Rattle.replay_cli.specs.Telling.{Tells};
 ghost use Rattle.replay_cli.specs.Words.{texts};
 
-use crate::named::{feed_of, site_of};
+use crate::named::{feeds_of, site_of};
 use crate::request::{Request, asked};
 use crate::texts::{FaultText, tell};
-use crate::words::{Name, Names};
 use crate::work::{Work, work_of};
 use outside_io::{Sink, Sinks, Steps, World, write_whole};
 use std::alloc::Global;
 use std::sync::ledger::Ledger;
 
-/// The only feed, since more than one isn't built yet.
-fn only(feeds: Names) -> Result<Name, FaultText>
-    ensures { result ≡ only_one feeds }
-{
-    let mut names = feeds.into_vec();
-    match (names.pop(), names.pop()) {
-        (Some(name), None) => Ok(Name::new(name)),
-        _ => Err(FaultText::NotBuilt),
-    }
-}
-
-/// Writes the alert bytes of the feed that the words name, under the site that they name.
-fn replay<W: World, K: Sink>(
+/// Writes the alert bytes of the feeds that the words name, under the site that they name.
+fn replay<W: World, K: Sink, L: Ledger>(
     alloc: Global,
     words: &[String],
     world: &mut W,
     out: &mut K,
+    steps: &mut Steps<L>,
 ) -> Result<Work, FaultText>
     ensures ends { Ends (ran (W.files world.old) (texts words.now)
         (change (W.faults world.old) (W.faults world.new))
@@ -48,11 +37,12 @@ fn replay<W: World, K: Sink>(
     ensures unused { status_of result ≢ 0 → status_of result ≢ 5 → status_of result ≢ 7 → out.new ≡ out.old }
     ensures files { W.files world.new ≡ W.files world.old }
     ensures closed { W.opened world.new ≡ W.opened world.old }
+    ensures steps { steps.old ≤ steps.new }
 {
     let Request { site, feeds } = asked(alloc, words)?;
     let site = site_of(alloc, world, site)?;
-    let input = feed_of(alloc, world, only(feeds)?)?;
-    let work = work_of(alloc, &site, input)?;
+    let inputs = feeds_of(alloc, world, feeds)?;
+    let work = work_of(alloc, &site, &inputs, steps)?;
     if write_whole(out, &work.alerts).is_err() {
         return Err(FaultText::WriteFailed);
     }
@@ -106,20 +96,20 @@ fn finish<K: Sink>(ending: Result<Work, FaultText>, report: &mut K) -> u8
 }
 
 /// Does all that the program does, and answers the exit status: 0 done, 2 for words that ask for nothing that
-/// is done here, 3 for a site that is refused or a feed that isn't supported so far, 4 for a name that can't be
+/// is done here, 3 for a site that is refused or feeds that aren't supported so far, 4 for a name that can't be
 /// opened or a read that failed, 5 for a write that failed, 6 for want of memory, 7 done with something refused
-/// or a feed that doesn't end behind a whole block. The order is words, site, feed, support, alerts, report.
+/// or a feed that doesn't end behind a whole block. The order is words, site, feeds, support, alerts, report.
 pub fn replay_top<W: World, K: Sink, L: Ledger>(
     alloc: Global,
     words: &[String],
     world: &mut W,
     sinks: &mut Sinks<K>,
-    _steps: &mut Steps<L>,
+    steps: &mut Steps<L>,
 ) -> u8
     // No other status comes.
     ensures statuses { (result ≡ 0) ⊎ (result ≡ 2) ⊎ (result ≡ 3) ⊎ (result ≡ 4) ⊎ (result ≡ 5) ⊎ (result ≡ 6) ⊎ (result ≡ 7) }
 
-    // The headline: where the world tells the site and the feed and the feed is supported, the statuses 0 and 7
+    // The headline: where the world tells the site and the feeds and these are supported, the statuses 0 and 7
     // have written the reference's alert bytes to `out`, and any other status a prefix of them.
     ensures headline { IfGiven (found (W.files world.old) (texts words.now))
         (Serves result (sunk (K.taken sinks.old.out) (K.taken sinks.new.out) (K.faults sinks.old.out) (K.faults sinks.new.out))) }
@@ -145,8 +135,8 @@ pub fn replay_top<W: World, K: Sink, L: Ledger>(
     ensures unused { result ≢ 0 → result ≢ 5 → result ≢ 7 → sinks.new.out ≡ sinks.old.out }
     ensures files { W.files world.new ≡ W.files world.old }
     ensures closed { W.opened world.new ≡ W.opened world.old }
-    ensures steps { _steps.new ≡ _steps.old }
+    ensures steps { steps.old ≤ steps.new }
 {
-    let ending = replay(alloc, words, world, &mut sinks.out);
+    let ending = replay(alloc, words, world, &mut sinks.out, steps);
     finish(ending, &mut sinks.report)
 }

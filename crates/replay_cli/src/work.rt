@@ -1,20 +1,25 @@
 //! What a run has to write: its alert bytes and its report.
-ghost use Rattle.std.specs.Prelude.{◌≡◌, ◌⊎◌, ◌∷◌, [], All, IfErr, IfOk, length};
-ghost use Rattle.cat062_read.specs.Tracks.{IsPlaced};
+ghost use Rattle.std.specs.Prelude.{◌≡◌, ◌⊎◌, ◌≤◌, IfErr, IfOk, length, nat_lt};
+ghost use Rattle.std.specs.List.{list_any};
 ghost use Rattle.site_params.specs.Ranges.{IsSite};
+ghost use Rattle.replay_cli.specs.Content.{are_intact as intact};
 ghost use Rattle.replay_cli.specs.Counts.{cycles_of, report_by};
+ghost use Rattle.replay_cli.specs.Feeds.{ArePlaced};
 ghost use Rattle.replay_cli.specs.Reference.{AreSupported};
 ghost use Rattle.replay_cli.specs.Works.{IsWork};
+ghost use Rattle.replay_cli.specs.declared.words.plan.TheConstants.{MOST_FEEDS};
 
 use crate::alerts::alerts_of;
 use crate::content::Input;
-use crate::report::{FeedCounts, Report, report_text};
-use crate::table::Unserved;
+use crate::report::{FeedCount, FeedCounts, Report, report_text};
+use crate::table::{Tabled, Unserved, table_of};
 use crate::texts::FaultText;
+use outside_io::Steps;
 use site_params::Site;
 use std::alloc::{AllocError, Global};
+use std::sync::ledger::Ledger;
 
-/// What a run has to write to `out` and to `report`, and whether its feed is intact.
+/// What a run has to write to `out` and to `report`, and whether its feeds are intact.
 #[derive(Debug, Drop)]
 pub struct Work {
     pub alerts: Vec<u8>,
@@ -46,46 +51,59 @@ impl From<Unserved> for FaultText {
     }
 }
 
-/// Cycle 0 alone is made, and none without a usable record.
-fn cycles(tracks: usize) -> u64
-    ensures { result ≡ cycles_of tracks }
+/// A record of one of the feeds is usable.
+fn is_some_usable(feeds: &[FeedCount]) -> bool
+    ensures { result ≡ list_any (λ feed. nat_lt 0 feed.tracks) feeds.now }
 {
-    if tracks == 0 { 0 } else { 1 }
+    feeds.iter().any(|feed| feed.tracks > 0)
 }
 
-/// The report of a feed, of whose records so many are usable, and in which so many alerts begin.
-fn report_of(
-    alloc: Global,
-    input: Input,
-    tracks: usize,
-    firsts: usize,
-) -> Result<Report, AllocError>
-    ensures { IfOk result (λ report. report ≡ report_by input tracks firsts) }
+/// Cycle 0 alone is made, and none without a usable record.
+fn cycles(feeds: &[FeedCount]) -> u64
+    ensures { result ≡ cycles_of feeds.now }
 {
-    let mut feeds = Vec::new(alloc);
-    feeds.push(input.into_count(tracks))?;
-    Ok(Report {
-        cycles: cycles(tracks),
+    if is_some_usable(feeds) { 1 } else { 0 }
+}
+
+/// The report of feeds in which so many alerts begin.
+fn report_of(feeds: Vec<FeedCount>, firsts: usize) -> Report
+    ensures { result ≡ report_by feeds.items firsts }
+{
+    Report {
+        cycles: cycles(&feeds),
         feeds: FeedCounts::new(feeds),
         firsts: firsts as u64,
         messages: firsts as u64,
-    })
+    }
 }
 
-/// What a run over a feed of this content has to write.
-pub fn work_of(alloc: Global, site: &Site, input: Input) -> Result<Work, FaultText>
-    requires site { IsSite site.now }
-    requires placed { All IsPlaced input.records }
-    ensures work { IfOk result (IsWork site.now input) }
-    ensures fault { IfErr result (λ e. (e ≡ FaultText.NoMemory) ⊎ ((e ≡ FaultText.NotBuilt) × (AreSupported site.now input.records → ⊥))) }
+/// Nothing of the feeds is refused, and each ends behind a whole block.
+fn are_intact(inputs: &[Input]) -> bool
+    ensures { result ≡ intact inputs.now }
 {
-    let alerts = alerts_of(alloc, site, input.records())?;
-    let is_intact = input.is_intact();
-    let report = report_of(alloc, input, alerts.tracks, alerts.firsts)?;
-    let text = report_text(alloc, &report)?;
+    inputs.iter().all(|input| input.is_intact())
+}
+
+/// What a run over feeds of these contents has to write.
+pub fn work_of<L: Ledger>(
+    alloc: Global,
+    site: &Site,
+    inputs: &[Input],
+    steps: &mut Steps<L>,
+) -> Result<Work, FaultText>
+    requires site { IsSite site.now }
+    requires placed { ArePlaced inputs.now }
+    requires few { length inputs.now ≤ MOST_FEEDS }
+    ensures work { IfOk result (IsWork site.now inputs.now) }
+    ensures fault { IfErr result (λ e. (e ≡ FaultText.NoMemory) ⊎ ((e ≡ FaultText.NotBuilt) × (AreSupported site.now inputs.now → ⊥))) }
+    ensures steps { steps.old ≤ steps.new }
+{
+    let Tabled { frozen, counts } = table_of(alloc, site, inputs)?;
+    let alerts = alerts_of(alloc, site, &frozen, steps)?;
+    let report = report_text(alloc, &report_of(counts, alerts.firsts))?;
     Ok(Work {
         alerts: alerts.bytes,
-        report: text,
-        is_intact,
+        report,
+        is_intact: are_intact(inputs),
     })
 }

@@ -1,12 +1,20 @@
 //! What a report tells.
-ghost use Rattle.std.specs.Prelude.{◌≡◌};
+ghost use Rattle.std.specs.Prelude.{◌≡◌, IfOk, take};
 
 use asterix_blocks::End;
 use cat062_read::Refused;
+use std::alloc::{AllocError, Global};
 use std::marker::Model;
 
 /// The most refusals of a feed that a report prints.
 pub const MOST_REFUSALS: u32 = 100;
+
+/// The refusals that are printed.
+pub fn printed(refusals: &[Refused]) -> &[Refused]
+    ensures { result.now ≡ take MOST_REFUSALS refusals.entry.now }
+{
+    &refusals[..refusals.len().min(MOST_REFUSALS as usize)]
+}
 
 /// Refusals of a feed, in order.
 #[derive(Debug, Drop)]
@@ -24,11 +32,13 @@ impl Model for Refusals {
 }
 
 impl Refusals {
-    /// These refusals as a list.
-    pub fn new(refusals: Vec<Refused>) -> Refusals
-        ensures { result ≡ refusals.items }
+    /// Those of the refusals that a report prints.
+    pub fn printed_of(alloc: Global, refusals: &[Refused]) -> Result<Refusals, AllocError>
+        ensures { IfOk result (λ list. list ≡ take MOST_REFUSALS refusals.now) }
     {
-        Refusals { refusals }
+        let mut first = Vec::new(alloc);
+        first.extend_from_slice(printed(refusals))?;
+        Ok(Refusals { refusals: first })
     }
 
     /// The refusals, to read them.

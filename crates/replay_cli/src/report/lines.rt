@@ -1,10 +1,10 @@
 //! The lines of a report, one kind after the other.
-ghost use Rattle.std.specs.Prelude.{◌≡◌, ◌++◌, ◌-◌, OnOk, take};
+ghost use Rattle.std.specs.Prelude.{◌≡◌, ◌++◌, ◌-◌, OnOk};
 ghost use Rattle.std.specs.String.{string_bytes};
 ghost use Rattle.std.specs.List.{flat_map};
 ghost use Rattle.replay_cli.specs.ReportText as text_of;
 
-use crate::report::counts::{FeedCount, MOST_REFUSALS};
+use crate::report::counts::{FeedCount, printed};
 use asterix_blocks::End;
 use asterix_fields::ItemFault;
 use cat062_read::Refused;
@@ -90,13 +90,6 @@ fn put_more(text: &mut String, feed: usize, more: u64) -> Result<(), NoMemory>
         return Ok(());
     }
     write!(text, "refused feed {feed} more {more}\n")
-}
-
-/// The refusals that are printed.
-fn printed(refusals: &[Refused]) -> &[Refused]
-    ensures { result.now ≡ take MOST_REFUSALS refusals.entry.now }
-{
-    &refusals[..refusals.len().min(MOST_REFUSALS as usize)]
 }
 
 /// The lines of a feed.

@@ -56,7 +56,7 @@ fn content(rt: &impl Abort, alloc: Global, outside: Outside<'_>) -> Result<Count
     let expected = plain(rt, alloc, outside.feed)?;
     assert!(rt; input.records() == expected.records());
     let is_intact = input.is_intact();
-    let (count, wanted) = (input.into_count(0), expected.into_count(0));
+    let (count, wanted) = (input.count(alloc, 0)?, expected.count(alloc, 0)?);
     assert_eq!(rt;
         (count.blocks, count.passed),
         (wanted.blocks, wanted.passed)

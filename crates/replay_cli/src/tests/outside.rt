@@ -12,20 +12,25 @@ use std::marker::Brand;
 use std::process::Abort;
 use std::sync::ledger::{Blank, Ledger};
 
-/// The names that the world knows: the feed's and the site's.
+/// The names that the world knows: those of two feeds and the site's.
 pub const NAME: &str = "a.ast";
+
+pub const OTHER: &str = "b.ast";
 
 pub const SITE: &str = "site.toml";
 
-/// The outside of a run: the feed behind `NAME` and the site behind `SITE`, the feed that is asked for, how reads
-/// and writes are cut, and the calls that fail. Calls are numbered from 0; the site is opened first.
+/// The outside of a run: the feed behind `NAME`, another behind `OTHER` and the site behind `SITE`, the feed that is
+/// asked for, how reads and writes are cut, and the calls that fail. Calls are numbered from 0; the site is opened
+/// first.
 #[derive(Clone, Copy)]
 pub struct Outside<'a> {
     pub site: &'a [u8],
     pub feed: &'a [u8],
+    pub other: &'a [u8],
     pub asked: &'a str,
     pub cuts: &'a [u32],
     pub failing_reads: &'a [u64],
+    pub failing_other_reads: &'a [u64],
     pub site_cuts: &'a [u32],
     pub failing_site_reads: &'a [u64],
     pub report_takes: &'a [u32],
@@ -41,9 +46,11 @@ impl<'a> Outside<'a> {
         Outside {
             site: SITE_A.as_bytes(),
             feed,
+            other: &[],
             asked: NAME,
             cuts: &[],
             failing_reads: &[],
+            failing_other_reads: &[],
             site_cuts: &[],
             failing_site_reads: &[],
             report_takes: &[],
@@ -139,11 +146,13 @@ fn file_of(
     })
 }
 
-/// A world that knows the feed as `NAME` and the site as `SITE`.
+/// A world that knows the feeds as `NAME` and `OTHER` and the site as `SITE`.
 pub fn world_of(alloc: Global, outside: Outside<'_>) -> Result<MemWorld, AllocError> {
     let mut files = Vec::new(alloc);
     let (cuts, fail) = (outside.cuts, outside.failing_reads);
     files.push(file_of(alloc, NAME, outside.feed, cuts, fail)?)?;
+    let fail = outside.failing_other_reads;
+    files.push(file_of(alloc, OTHER, outside.other, &[], fail)?)?;
     let (cuts, fail) = (outside.site_cuts, outside.failing_site_reads);
     files.push(file_of(alloc, SITE, outside.site, cuts, fail)?)?;
     Ok(MemWorld {

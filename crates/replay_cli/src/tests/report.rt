@@ -24,7 +24,7 @@ fn feed(
         passed: 2,
         records: 3,
         tracks: 4,
-        refused: Refusals::new(Vec::from_slice(alloc, refused)?),
+        refused: Refusals::printed_of(alloc, refused)?,
         refusals,
         end,
     })
@@ -61,7 +61,7 @@ fn report_of_two_tracks(rt: HostRuntime) -> Result<(), Fail> {
         passed: 0,
         records: 2,
         tracks: 2,
-        refused: Refusals::new(Vec::new(alloc)),
+        refused: Refusals::printed_of(alloc, &[])?,
         refusals: 0,
         end: End::Clean,
     })?;

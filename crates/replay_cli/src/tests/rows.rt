@@ -50,7 +50,15 @@ fn statuses(rt: HostRuntime) -> Result<(), Fail> {
         status: Some(&[0x01, 0x40]),
         ..HEAD_ON
     };
-    let cases = [(simulated, false, "simulated"), (ended, false, "ended")];
+    let tentative = Plot {
+        status: Some(&[0x02]),
+        ..HEAD_ON
+    };
+    let cases = [
+        (simulated, false, "simulated"),
+        (ended, false, "ended"),
+        (tentative, false, "tentative"),
+    ];
     check(&rt, rt.alloc(), &cases)?;
     Ok(())
 }

@@ -1,32 +1,59 @@
 //! Which feeds are supported so far, and which stamps a cycle takes.
 
-use super::content::plain;
 use super::feeds::{ALERT, FIRST, SECOND, joined};
 use super::outside::{Outside, expect, expect_alert, replayed};
 use super::plots::{Plot, at_rest};
 use crate::unbuilt;
-use std::alloc::{AllocError, Global};
-use std::process::Abort;
 use std::test::Fail;
+use track_motion::{Stamped, Track, TrackKey};
 
-/// Whether the records of a feed aren't supported for the cycle of the built-in site.
-fn is_unbuilt(rt: &impl Abort, alloc: Global, feed: &[u8]) -> Result<bool, AllocError> {
-    Ok(unbuilt(&plain(rt, alloc, feed)?.records(), 4_608_000, 512))
+/// A track told in cycle 0.
+const TOLD: Stamped = Stamped {
+    track: Track {
+        key: TrackKey {
+            sac: 25,
+            sic: 10,
+            number: 257,
+        },
+        time: 4_608_256,
+        x: 0,
+        y: 0,
+        vx: 0,
+        vy: 0,
+        level: None,
+        altitude: None,
+        rate: 0,
+        code: None,
+        tentative: false,
+        simulated: false,
+        ended: false,
+    },
+    feed: 0,
+    place: 0,
+    at: 4_608_256,
+    window: 0,
+};
+
+#[test]
+fn windows_of_cycle_0(rt: HostRuntime) {
+    let late = Stamped { window: 1, ..TOLD };
+    assert!(rt; !unbuilt(&[]));
+    assert!(rt; !unbuilt(&[TOLD, TOLD]));
+    assert!(rt; unbuilt(&[TOLD, late, TOLD]));
 }
 
 #[test]
-fn each_track_once(rt: HostRuntime) -> Result<(), Fail> {
+fn tracks_told_once_and_again(rt: HostRuntime) -> Result<(), Fail> {
     let alloc = rt.alloc();
-    let cases: [(&[&[u8]], u8, &[u8], &str); 3] = [
-        (&[&FIRST, &SECOND], 0, &ALERT, "two tracks"),
-        (&[], 0, &[], "no track"),
-        (&[&FIRST, &FIRST], 3, &[], "one track twice"),
+    let cases: [(&[&[u8]], &[u8], &str); 4] = [
+        (&[&FIRST, &SECOND], &ALERT, "two tracks"),
+        (&[], &[], "no track"),
+        (&[&FIRST, &FIRST], &[], "one track twice"),
+        (&[&FIRST, &SECOND, &FIRST], &ALERT, "the first told again"),
     ];
-    for (blocks, status, out, what) in cases {
+    for (blocks, out, what) in cases {
         let feed = joined(alloc, blocks)?;
-        let ran = replayed(alloc, Outside::of(&feed))?;
-        expect(&rt, &ran, status, out, what);
-        assert_eq!(rt; is_unbuilt(&rt, alloc, &feed)?, status == 3, "{what}");
+        expect(&rt, &replayed(alloc, Outside::of(&feed))?, 0, out, what);
     }
     Ok(())
 }
@@ -52,7 +79,6 @@ fn times_of_a_cycle(rt: HostRuntime) -> Result<(), Fail> {
         let feed = joined(alloc, &[&plot.block(alloc)?, &other])?;
         let ran = replayed(alloc, Outside::of(&feed))?;
         expect_alert(&rt, &ran, status, is_alert, what);
-        assert_eq!(rt; is_unbuilt(&rt, alloc, &feed)?, status == 3, "{what}");
     }
     Ok(())
 }

@@ -195,8 +195,8 @@ fn a_fault_text_that_fails(rt: HostRuntime) -> Result<(), Fail> {
     Ok(())
 }
 
-/// The site of the tests with one text in it written otherwise.
-fn changed(alloc: Global, old: &str, new: &str) -> Result<String, AllocError> {
+/// The site of the tests with one line of it written otherwise.
+pub fn changed(alloc: Global, old: &str, new: &str) -> Result<String, AllocError> {
     let mut site = String::new(alloc);
     for line in SITE_A.lines() {
         if line == old {
@@ -306,16 +306,5 @@ fn a_site_that_is_not_read(rt: HostRuntime) -> Result<(), Fail> {
     let ran = replayed(alloc, outside)?;
     expect_faults(&rt, &ran, 4, &[], WORLD_FAULT, "an open that fails");
     expect_report(&rt, &ran, "cannot open site.toml\n", "an open that fails");
-    Ok(())
-}
-
-#[test]
-fn several_feeds(rt: HostRuntime) -> Result<(), Fail> {
-    let alloc = rt.alloc();
-    let words = ["replay", NAME, "--site", SITE, NAME];
-    let ran = run_words(alloc, Outside::of(&FIRST), &words)?;
-    expect(&rt, &ran, 3, &[], "two feeds");
-    expect_report(&rt, &ran, "not built\n", "two feeds");
-    assert_eq!(rt; ran.opens, 1, "no feed is opened");
     Ok(())
 }

@@ -4,8 +4,8 @@ use Rattle.std.specs.List.{AllByRecursion}
 use Rattle.replay_cli.specs.Cycle.{FitsMessage, events}
 use Rattle.replay_cli.proofs.cycle.events.Given as goal
 
-abbrev pub invariant-loop-number : goal.invariant-loop-number
-invariant-loop-number l = record {
-  found : l.events.items ≡ events (take l.number l.hits);
+abbrev pub invariant-loop-hit : goal.invariant-loop-hit
+invariant-loop-hit l = record {
+  found : l.events.items ≡ events l.site (take l.hit-index l.hits);
   room : AllByRecursion FitsMessage l.events.items;
 }

@@ -1,5 +1,5 @@
 -- what was read so far was taken from the source's front, and the count is as it was
-use Rattle.std.proofs.Common.{◌≡◌, ◌≤◌, ◌+◌, length}
+use Rattle.std.proofs.Common.{◌≡◌, ◌+◌, length}
 use Rattle.std.specs.Io.KnownBytes.{Consumes}
 use Rattle.replay_cli.specs.declared.input.TheConstants.{PIECE}
 use Rattle.replay_cli.proofs.input.read_text.Given as goal

@@ -1,10 +1,10 @@
-use Rattle.std.proofs.Common.{◌≡◌, ◌++◌, ◌≤◌, List, [], ℕ, length, length-take-le, take, drop, refl, ap, ◌∙◌, arith}
+use Rattle.std.proofs.Common.{◌≡◌, ◌++◌, ◌≤◌, List, [], ℕ, length, length-take-le, take, drop, refl, ap, arith}
 use Rattle.std.proofs.lemmas.List.{length-append, length-take, length-drop, take-append-le}
 use Rattle.asterix_blocks.specs.Framing.{framing_within, blocks}
 use Rattle.asterix_blocks.specs.Cutting.{Cuts}
 use Rattle.asterix_blocks.specs.declared.blocks.End.{End}
 use Rattle.asterix_blocks.specs.declared.TheConstants.{FEED_ROOM}
-use Rattle.replay_cli.specs.Feeds.{ReadsWhole, Gathers}
+use Rattle.replay_cli.specs.Feeds.{Gathers}
 use Rattle.replay_cli.specs.Content.{Content}
 use Rattle.replay_cli.specs.Feeds.{content_as}
 use Rattle.replay_cli.proofs.Read.{read_to_end, read_to_room, read_whatever, read_of_fed, read_of_bad, at_end_before, consumes_nothing, consumes_more}

@@ -1,4 +1,4 @@
-use Rattle.std.proofs.Common.{◌≡◌, Ok, rules}
+use Rattle.std.proofs.Common.{◌≡◌, Ok}
 use Rattle.site_params.specs.Site.{site_of_text}
 use Rattle.replay_cli.proofs.Under.{reading_is, stops_refused}
 use Rattle.replay_cli.proofs.named.site_of.Goals as goal

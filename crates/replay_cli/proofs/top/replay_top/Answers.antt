@@ -2,7 +2,7 @@ use Rattle.std.proofs.Common.{ap}
 use Rattle.replay_cli.specs.Ends.{Ran, change, ran}
 use Rattle.replay_cli.specs.Outcomes.{Sunk, sunk}
 use Rattle.replay_cli.specs.Words.{texts}
-use Rattle.replay_cli.proofs.Ends.{headline_of, told_of}
+use Rattle.replay_cli.proofs.Ends.{headline_of, judged_of, told_of}
 use Rattle.replay_cli.proofs.top.replay_top.Goals as goal
 
 pub returns-clause-headline : goal.returns-clause-headline
@@ -19,3 +19,10 @@ returns-clause-told g c =
     (sunk (g.K.Sink.taken c.args.sinks.now.out) (g.K.Sink.taken c.replay-ending.new.out) (g.K.Sink.faults c.args.sinks.now.out) (g.K.Sink.faults c.replay-ending.new.out)) in
     let report : Sunk = sunk (g.K.Sink.taken c.args.sinks.now.report) (g.K.Sink.taken c.finish.new.report) (g.K.Sink.faults c.args.sinks.now.report) (g.K.Sink.faults c.finish.new.report) in
     told_of r c.replay-ending.result c.finish.result report c.replay-ending.ensures.ends c.finish.ensures.finished
+
+pub returns-clause-judged : goal.returns-clause-judged
+returns-clause-judged g c =
+    let r : Ran = ran (g.W.World.files c.args.world.now) (texts c.args.words.now) (change (g.W.World.faults c.args.world.now) (g.W.World.faults c.replay-ending.new.world))
+    (sunk (g.K.Sink.taken c.args.sinks.now.out) (g.K.Sink.taken c.replay-ending.new.out) (g.K.Sink.faults c.args.sinks.now.out) (g.K.Sink.faults c.replay-ending.new.out)) in
+    let report : Sunk = sunk (g.K.Sink.taken c.args.sinks.now.report) (g.K.Sink.taken c.finish.new.report) (g.K.Sink.faults c.args.sinks.now.report) (g.K.Sink.faults c.finish.new.report) in
+    judged_of r c.replay-ending.result c.finish.result report c.replay-ending.ensures.ends c.finish.ensures.finished
