@@ -5,9 +5,19 @@
 level, 3 km away. One track in forty is tentative. Numbers stand in no order, so that the table has to be
 sorted.
 
+`en_route` gives traffic of one density, in blocks of one record: 1,000 tracks a square of 400 km, on flight
+levels 240 to 400 in steps of 10, at 200 to 260 m/s in all directions, one in ten climbing or descending.
+
 `mixed` gives records to be read, of many shapes of category 062, in blocks of many records with blocks of
 other categories between them. All tracks are tentative but for a few pairs that fly head on.
+
+`told` gives records of which few count, since each track is told often: by several trackers, of which each
+has a feed. All tracks are tentative but for a few pairs that fly head on.
+
+All times are from the site's start to just before the end of its first cycle.
 """
+
+from math import isqrt
 
 START = 4_608_000
 PERIOD = 512
@@ -77,6 +87,33 @@ def feed(count):
         octets += block(track, numbers[i], START + i * PERIOD // count, tentative)
         eligible += not tentative
     return bytes(octets), eligible
+
+
+def cruising_tracks(draws, count):
+    """In the units of `placed_tracks`."""
+    reach = isqrt(400_000**2 * count // 1_000)
+    tracks = []
+    while len(tracks) < count:
+        vx, vy = draws.between(-1_040, 1_040), draws.between(-1_040, 1_040)
+        if not 800**2 <= vx * vx + vy * vy <= 1_040**2:
+            continue
+        tracks.append({
+            "x": draws.between(-reach, reach),
+            "y": draws.between(-reach, reach),
+            "vx": vx,
+            "vy": vy,
+            "level": 40 * draws.between(24, 40),
+            "rate": draws.between(160, 480) * (1 - 2 * draws.below(2)) if draws.below(10) == 0 else 0,
+        })
+    return tracks
+
+
+def en_route(count):
+    """The feed's bytes; none of its tracks is tentative."""
+    draws = Draws()
+    numbers = shuffled_numbers(draws, count)
+    return b"".join(block(track, numbers[i], START + i * PERIOD // count, False)
+                    for i, track in enumerate(cruising_tracks(draws, count)))
 
 
 # What `mixed` makes its records of: the octets of the fixed items, the size of a part of the extended ones,
@@ -185,6 +222,10 @@ def head_on(i):
     return block(track, 0, 0, False)[3:], 3, 5, 18
 
 
+def is_head_on(i, step):
+    return i % step == 0 and i // step < 2 * HEAD_ON
+
+
 def framed(body):
     return bytes([62]) + (3 + len(body)).to_bytes(2, "big") + body
 
@@ -199,8 +240,7 @@ def mixed(count):
     body = bytearray()
     room = draws.between(1, 200)
     for i in range(count):
-        pair = i % step == 0 and i // step < 2 * HEAD_ON
-        chosen = head_on(i // step) if pair else templates[draws.below(len(templates))]
+        chosen = head_on(i // step) if is_head_on(i, step) else templates[draws.below(len(templates))]
         octets, source, time, number = chosen
         record = bytearray(octets)
         # An odd number gives each track another key of 20 bits, in no order.
@@ -220,3 +260,57 @@ def mixed(count):
         body += record
         room -= 1
     return bytes(feed + framed(body))
+
+
+TRACKERS = 8
+RECORDS_IN_BLOCK = 50
+BYSTANDER = block({"x": 0, "y": 0, "vx": 800, "vy": 0, "level": 1_320, "rate": 0}, 0, 0, True)[3:]
+
+
+def told_tick(i, count, tracker, turn, turns):
+    """When a tracker tells track i at one of its turns. Each tracker goes through the tracks in order, half
+    a tick behind the tracker before it, so that two often tell a track at the same time."""
+    half_ticks = 2 * PERIOD
+    place = (i * half_ticks // count + tracker * turns) % half_ticks
+    return (turn * half_ticks + place) // (2 * turns)
+
+
+def teller(draws, i, count):
+    """What gives the record of track i at a tick: up to 31 m beside its place, since no tracker sees exactly
+    where it is."""
+    step = count // (2 * HEAD_ON)
+    record = head_on(i // step)[0] if is_head_on(i, step) else BYSTANDER
+    # An odd number gives each track another key below the next power of two, in no order.
+    key = i * 618_033 % 2**count.bit_length()
+    before = bytes(record[:3]) + bytes([25, 10 + (key >> 16)])
+    after = bytes(record[11:18]) + (key & 0xFFFF).to_bytes(2, "big") + bytes(record[20:])
+    x, vx = (int.from_bytes(octets, "big", signed=True) for octets in (record[8:11], record[14:16]))
+
+    def record_at(tick):
+        seen = x + (vx * tick >> 8) + draws.below(64)
+        return before + (START + tick).to_bytes(3, "big") + seen.to_bytes(3, "big", signed=True) + after
+
+    return record_at
+
+
+def in_blocks(records):
+    return b"".join(framed(b"".join(records[i:i + RECORDS_IN_BLOCK]))
+                    for i in range(0, len(records), RECORDS_IN_BLOCK))
+
+
+def told(count, trackers, turns):
+    """One feed, and eight of the same records: each track is told by so many of eight trackers, in so many
+    turns of each. In no feed do times fall. Where they are equal, the one feed has the records of later
+    feeds first, so that the same ones count in it as in the eight."""
+    draws = Draws()
+    ticks = [[[] for _ in range(TRACKERS)] for _ in range(PERIOD)]
+    for i in range(count):
+        record_at = teller(draws, i, count)
+        for place in range(i, i + trackers):
+            tracker = place % TRACKERS
+            for turn in range(turns):
+                tick = told_tick(i, count, tracker, turn, turns)
+                ticks[tick][tracker].append(record_at(tick))
+    one = in_blocks([record for tick in ticks for records in reversed(tick) for record in records])
+    eight = [in_blocks([record for tick in ticks for record in tick[i]]) for i in range(TRACKERS)]
+    return [one], eight

@@ -1,14 +1,19 @@
 //! The yardstick of the bench: what the proved program does, on the same words, in plain Rust with the
 //! standard library alone. It was written from the definitions and shares no code with the crates.
 //!
-//! Exit statuses: 0 done, 2 other words than `replay --site SITE NAME`, 3 a feed that isn't built, 4 a feed that can't
-//! be opened or read, 5 a write that failed, 7 done, and part of the feed was refused or cut off.
+//! Exit statuses: 0 done, 2 other words than `replay --site SITE FEED...` with one feed to eight, 3 a record that is
+//! later than the cycle, 4 a feed that can't be opened or read, 5 a write that failed, 7 done, and part of a feed was
+//! refused or cut off.
 
+use std::cmp::Reverse;
+use std::collections::HashMap;
 use std::io::Write;
 use std::process::ExitCode;
 
 use Form::{Compound, Explicit, Extended, Fixed, Spare};
 use Subfield::{Fixed as F, Repeat as R};
+
+const MOST_FEEDS: usize = 8;
 
 /// What follows so many octets is no part of a feed.
 const FEED_LIMIT: usize = 1 << 40;
@@ -17,26 +22,38 @@ const FEED_LIMIT: usize = 1 << 40;
 const SAC: u8 = 25;
 const SIC: u8 = 100;
 
-/// Times in ticks of 1/128 s: a day, when the cycle begins and ends, how old a row may be by then, and the
-/// look-ahead.
+/// Times in ticks of 1/128 s: a day, when the cycle begins and ends, how old a row may be by then, the
+/// look-ahead, and how far ahead a conflict is urgent.
 const DAY: i64 = 24 * 3_600 * 128;
 const START: i64 = 4_608_000;
 const END: i64 = START + 512;
 const TIMEOUT: i64 = 16 * 128;
 const LOOK: i64 = 120 * 128;
+const URGENT: i64 = 20 * 128;
 
 /// Lengths are in 1/512 m and heights in 1/30,720 of 25 ft, so that a speed of 0.25 m/s and a rate of
 /// 6.25 ft/min are one unit a tick.
 const HALF_METRE: i64 = 256;
 const FEET_25: i64 = 30_720;
-const LIMIT_H: i64 = 4_630 * 512;
-const LIMIT_V_LOW: i64 = 500 / 25 * FEET_25;
-const LIMIT_V_HIGH: i64 = 600 / 25 * FEET_25;
+
+/// The limits of linear prediction and those of current proximity.
+const LIMIT_H: i64 = 9_260 * 512;
+const LIMIT_V_LOW: i64 = 800 / 25 * FEET_25;
+const LIMIT_V_HIGH: i64 = 1_000 / 25 * FEET_25;
+const NOW_H: i64 = 4_630 * 512;
+const NOW_V_LOW: i64 = 500 / 25 * FEET_25;
+const NOW_V_HIGH: i64 = 600 / 25 * FEET_25;
 const SPLIT: i64 = 29_000 / 25 * FEET_25;
 
+/// A pair beyond a limit of linear prediction is beyond that of current proximity too.
+const _: () = assert!(NOW_H <= LIMIT_H && NOW_V_LOW <= LIMIT_V_LOW && NOW_V_HIGH <= LIMIT_V_HIGH);
+
+/// The hit that begins an alert where none is urgent; in this cycle each hit is the first of its pair.
+const CONFIRMING_HIT: u32 = 2;
+
 /// The QNH correction in 25 ft, and the Mode 3/A codes that are left out.
-const QNH: i64 = 0;
-const CODES: [i64; 1] = [0o7000];
+const QNH: i16 = 0;
+const CODES: [u16; 1] = [0o7000];
 
 const MESSAGE: usize = 39;
 const MESSAGES_IN_BLOCK: usize = (1_400 - 3) / MESSAGE;
@@ -107,16 +124,34 @@ struct Record {
     source: Option<[u8; 2]>,
     number: Option<[u8; 2]>,
     time: Option<i64>,
-    position: Option<(i64, i64)>,
-    velocity: (i64, i64),
-    rate: i64,
-    flight_level: Option<i64>,
-    barometric: Option<i64>,
-    code: Option<i64>,
+    position: Option<(i32, i32)>,
+    velocity: (i16, i16),
+    rate: i16,
+    flight_level: Option<i16>,
+    barometric: Option<i16>,
+    code: Option<u16>,
     tentative: bool,
     simulated: bool,
     ended: bool,
 }
+
+/// What the table keeps of a usable record.
+#[derive(Clone, Copy)]
+struct Track {
+    at: i64,
+    feed: u8,
+    /// It has a level, and nothing but its age can leave it out.
+    is_eligible: bool,
+    level: i16,
+    rate: i16,
+    x: i32,
+    y: i32,
+    vx: i16,
+    vy: i16,
+}
+
+/// The track of the greatest rank of each key.
+type Table = HashMap<Key, Track>;
 
 /// A track at the end of the cycle.
 struct Mover {
@@ -129,26 +164,37 @@ struct Mover {
     vz: i64,
 }
 
+/// Where the second track of a pair is and how it moves, as seen from the first. No axis alone keeps the pair apart,
+/// so along each the two are never farther than the limit and the way of the whole look-ahead, and squared
+/// distances are below 2^62.
+struct Apart {
+    dx: i64,
+    dy: i64,
+    dz: i64,
+    dvx: i64,
+    dvy: i64,
+    dvz: i64,
+}
+
 struct Hit {
     first_key: Key,
     second_key: Key,
+    first: i64,
     closest: i64,
-    chs: u128,
-    mhs: u128,
+    chs: i64,
+    mhs: i64,
     cvs: i64,
     mvs: i64,
+    is_current: bool,
+    is_urgent: bool,
 }
 
-fn unsigned(octets: &[u8]) -> i64 {
-    octets.iter().fold(0, |value, octet| value << 8 | i64::from(*octet))
+fn word(octets: &[u8]) -> u16 {
+    u16::from_be_bytes([octets[0], octets[1]])
 }
 
-fn signed(octets: &[u8]) -> i64 {
-    twos_complement(unsigned(octets), 8 * octets.len() as u32)
-}
-
-fn twos_complement(value: i64, bits: u32) -> i64 {
-    if value >> (bits - 1) == 1 { value - (1 << bits) } else { value }
+fn signed_24(octets: &[u8]) -> i32 {
+    i32::from_be_bytes([octets[0], octets[1], octets[2], 0]) >> 8
 }
 
 /// What one to five presence octets name, from 0, as a set of bits, and how many octets they are.
@@ -207,10 +253,10 @@ impl Record {
     fn take(&mut self, frn: usize, item: &[u8]) {
         match frn {
             1 => self.source = Some([item[0], item[1]]),
-            4 => self.time = Some(unsigned(item) % DAY),
-            6 => self.position = Some((signed(&item[..3]), signed(&item[3..]))),
-            7 => self.velocity = (signed(&item[..2]), signed(&item[2..])),
-            9 => self.code = Some(unsigned(item) & 0xFFF),
+            4 => self.time = Some(i64::from(u32::from_be_bytes([0, item[0], item[1], item[2]])) % DAY),
+            6 => self.position = Some((signed_24(&item[..3]), signed_24(&item[3..]))),
+            7 => self.velocity = (word(&item[..2]) as i16, word(&item[2..]) as i16),
+            9 => self.code = Some(word(item) & 0xFFF),
             12 => self.number = Some([item[0], item[1]]),
             13 => {
                 let extension = item.get(1).copied().unwrap_or(0);
@@ -218,38 +264,61 @@ impl Record {
                 self.simulated = extension & 0x80 != 0;
                 self.ended = extension & 0x40 != 0;
             }
-            17 => self.flight_level = Some(signed(item)),
+            17 => self.flight_level = Some(word(item) as i16),
             19 => {
                 let correction = if item[0] & 0x80 != 0 { QNH } else { 0 };
-                self.barometric = Some(twos_complement(unsigned(item) & 0x7FFF, 15) - correction);
+                self.barometric = Some(((word(item) << 1) as i16 >> 1) - correction);
             }
-            20 => self.rate = signed(item),
+            20 => self.rate = word(item) as i16,
             _ => {}
         }
     }
 
-    /// The key and the time of a usable record.
+    /// The key and the time of day of a usable record.
     fn usable(&self) -> Option<(Key, i64)> {
         let ([sac, sic], [high, low]) = (self.source?, self.number?);
         let placed = self.position.is_some() || self.ended;
         Some((Key::from_be_bytes([sac, sic, high, low]), self.time?)).filter(|_| placed)
     }
 
-    /// The track of a record, moved on to the end of the cycle, where it is a row that the net looks at.
-    fn mover(&self, key: Key, age: i64) -> Option<Mover> {
-        let level = self.flight_level.or(self.barometric)?;
+    fn track(&self, at: i64, feed: u8) -> Track {
+        let level = self.flight_level.or(self.barometric);
         let left_out = self.code.is_some_and(|code| CODES.contains(&code));
-        if self.ended || age > TIMEOUT || self.tentative || self.simulated || left_out {
-            return None;
-        }
-        let ((x, y), (vx, vy), vz) = (self.position?, self.velocity, self.rate);
-        Some(Mover {
-            key,
-            x: x * HALF_METRE + vx * age,
-            y: y * HALF_METRE + vy * age,
+        let ((x, y), (vx, vy)) = (self.position.unwrap_or_default(), self.velocity);
+        Track {
+            at,
+            feed,
+            is_eligible: level.is_some() && !(self.ended || self.tentative || self.simulated || left_out),
+            level: level.unwrap_or_default(),
+            rate: self.rate,
+            x,
+            y,
             vx,
             vy,
-            z: level * FEET_25 + vz * age,
+        }
+    }
+}
+
+impl Track {
+    /// The greater rank counts, and of two that are equal the one that was put later.
+    fn rank(&self) -> (i64, Reverse<u8>) {
+        (self.at, Reverse(self.feed))
+    }
+
+    /// The track moved on to the end of the cycle, where it is a row that the net looks at.
+    fn mover(&self, key: Key) -> Option<Mover> {
+        let age = END - self.at;
+        if !self.is_eligible || age > TIMEOUT {
+            return None;
+        }
+        let (vx, vy, vz) = (i64::from(self.vx), i64::from(self.vy), i64::from(self.rate));
+        Some(Mover {
+            key,
+            x: i64::from(self.x) * HALF_METRE + vx * age,
+            y: i64::from(self.y) * HALF_METRE + vy * age,
+            vx,
+            vy,
+            z: i64::from(self.level) * FEET_25 + vz * age,
             vz,
         })
     }
@@ -279,78 +348,160 @@ fn read_feed(mut feed: &[u8], mut each: impl FnMut(Record)) -> bool {
     clean && feed.is_empty()
 }
 
-/// The rows that the net looks at in key order, and whether the feed was read clean; None where a record is
-/// behind the cycle's end, or two are of one track.
-fn read_table(feed: &[u8]) -> Option<(Vec<Mover>, bool)> {
-    let (mut keys, mut movers, mut latest) = (Vec::new(), Vec::new(), START);
-    let clean = read_feed(feed, |record| {
+/// Puts a feed's tracks into the table, and tells whether the feed was read clean, and the latest time in it.
+/// Feeds are put in their order.
+fn put_feed(table: &mut Table, feed: u8, octets: &[u8]) -> (bool, i64) {
+    let mut latest = START;
+    let clean = read_feed(octets, |record| {
         let Some((key, time)) = record.usable() else { return };
         // The time of day is that within twelve hours of the latest so far.
         let earliest = latest - DAY / 2;
         let at = earliest + (time - earliest).rem_euclid(DAY);
         latest = latest.max(at);
-        keys.push(key);
-        movers.extend(record.mover(key, END - at));
+        let track = record.track(at, feed);
+        let kept = table.entry(key).or_insert(track);
+        if track.rank() >= kept.rank() {
+            *kept = track;
+        }
     });
-    keys.sort_unstable();
-    movers.sort_unstable_by_key(|mover: &Mover| mover.key);
-    let built = latest < END && keys.windows(2).all(|pair| pair[0] != pair[1]);
-    built.then_some((movers, clean))
+    (clean, latest)
 }
 
-/// Now within both limits, and not drawing apart.
-fn is_current(a: &Mover, b: &Mover) -> bool {
-    let (dx, dy) = (b.x - a.x, b.y - a.y);
-    if dx.abs() >= LIMIT_H || dy.abs() >= LIMIT_H || dx * dx + dy * dy >= LIMIT_H * LIMIT_H {
-        return false;
+/// The rows that the net looks at, in key order.
+fn movers(table: &Table) -> Vec<Mover> {
+    let mut movers = table.iter().filter_map(|(key, track)| track.mover(*key)).collect::<Vec<_>>();
+    movers.sort_unstable_by_key(|mover| mover.key);
+    movers
+}
+
+/// Beyond a limit, and on the same side of it, from tick 0 to the end of the look-ahead.
+fn stays_beyond(apart: i64, speed: i64, limit: i64) -> bool {
+    let end = apart + speed * LOOK;
+    apart.min(end) >= limit || apart.max(end) <= -limit
+}
+
+/// The vertical limits of linear prediction and of current proximity.
+fn vertical_limits(a: &Mover, b: &Mover) -> (i64, i64) {
+    if a.z <= SPLIT && b.z <= SPLIT { (LIMIT_V_LOW, NOW_V_LOW) } else { (LIMIT_V_HIGH, NOW_V_HIGH) }
+}
+
+/// One axis alone keeps the two from a conflict.
+fn stay_apart(a: &Mover, b: &Mover) -> bool {
+    stays_beyond(b.x - a.x, b.vx - a.vx, LIMIT_H)
+        || stays_beyond(b.y - a.y, b.vy - a.vy, LIMIT_H)
+        || stays_beyond(b.z - a.z, b.vz - a.vz, vertical_limits(a, b).0)
+}
+
+impl Apart {
+    fn new(a: &Mover, b: &Mover) -> Self {
+        Self {
+            dx: b.x - a.x,
+            dy: b.y - a.y,
+            dz: b.z - a.z,
+            dvx: b.vx - a.vx,
+            dvy: b.vy - a.vy,
+            dvz: b.vz - a.vz,
+        }
     }
-    let limit_v = if a.z <= SPLIT && b.z <= SPLIT { LIMIT_V_LOW } else { LIMIT_V_HIGH };
-    (b.z - a.z).abs() < limit_v && dx * (b.vx - a.vx) + dy * (b.vy - a.vy) <= 0
-}
 
-fn squared_distance(a: &Mover, b: &Mover, tick: i64) -> u128 {
-    let dx = i128::from(b.x - a.x + (b.vx - a.vx) * tick);
-    let dy = i128::from(b.y - a.y + (b.vy - a.vy) * tick);
-    (dx * dx + dy * dy) as u128
-}
-
-/// The tick of the look-ahead at which the two are closest, the earlier of two that tie. A hit isn't
-/// drawing apart, so the real minimum isn't before tick 0, and the tick is one of the two beside it.
-fn closest_tick(a: &Mover, b: &Mover) -> i64 {
-    let (dvx, dvy) = (b.vx - a.vx, b.vy - a.vy);
-    let growth = dvx * dvx + dvy * dvy;
-    if growth == 0 {
-        return 0;
+    fn squared_distance(&self, tick: i64) -> i64 {
+        let (dx, dy) = (self.dx + self.dvx * tick, self.dy + self.dvy * tick);
+        dx * dx + dy * dy
     }
-    let before = (-((b.x - a.x) * dvx + (b.y - a.y) * dvy) / growth).min(LOOK);
-    let after = (before + 1).min(LOOK);
-    if squared_distance(a, b, after) < squared_distance(a, b, before) { after } else { before }
+
+    fn height(&self, tick: i64) -> i64 {
+        (self.dz + self.dvz * tick).abs()
+    }
+
+    /// Below 0 where they close in at tick 0, above 0 where they draw apart.
+    fn approach(&self) -> i64 {
+        self.dx * self.dvx + self.dy * self.dvy
+    }
+
+    /// The tick of the look-ahead at which the two are closest, the earlier of two that tie: the first from which
+    /// the next one is no closer.
+    fn closest_tick(&self) -> i64 {
+        let growth = self.dvx * self.dvx + self.dvy * self.dvy;
+        let lead = -2 * self.approach() - growth;
+        if lead <= 0 { 0 } else { ((lead - 1) / (2 * growth) + 1).min(LOOK) }
+    }
+
+    /// The first tick within the horizontal limit. The distance only falls until the closest tick.
+    fn first_near(&self, closest: i64) -> Option<i64> {
+        let is_near = |tick| self.squared_distance(tick) < LIMIT_H * LIMIT_H;
+        if !is_near(closest) {
+            return None;
+        }
+        let (mut before, mut near) = (-1, closest);
+        while near - before > 1 {
+            let middle = (before + near) / 2;
+            if is_near(middle) { near = middle } else { before = middle }
+        }
+        Some(near)
+    }
+
+    /// The first tick from which on the two aren't beyond the vertical limit on the side of tick 0.
+    fn first_level(&self, limit: i64) -> Option<i64> {
+        let above = self.dz.abs() - limit;
+        let closing = -self.dvz * self.dz.signum();
+        if above < 0 { Some(0) } else { (closing > 0).then(|| above / closing + 1) }
+    }
+
+    /// The first tick of linear prediction. The ticks within each limit are a span, so it can only be the
+    /// later of the two first ones.
+    fn first_conflict(&self, limit_v: i64, closest: i64) -> Option<i64> {
+        let first = self.first_level(limit_v)?.max(self.first_near(closest)?);
+        let is_conflict = first <= LOOK
+            && self.squared_distance(first) < LIMIT_H * LIMIT_H
+            && self.height(first) < limit_v;
+        is_conflict.then_some(first)
+    }
+
+    /// Now within both limits, and not drawing apart.
+    fn is_current(&self, limit_v: i64) -> bool {
+        self.squared_distance(0) < NOW_H * NOW_H && self.height(0) < limit_v && self.approach() <= 0
+    }
 }
 
-fn hit(a: &Mover, b: &Mover) -> Hit {
-    let closest = closest_tick(a, b);
-    let horizontal = |tick| squared_distance(a, b, tick).isqrt() / HALF_METRE as u128;
-    let vertical = |tick: i64| (b.z - a.z + (b.vz - a.vz) * tick).abs() / FEET_25;
-    Hit {
+/// The hit of a pair that no axis alone keeps apart. It isn't inlined into the loop over all pairs, most of which
+/// are far.
+#[inline(never)]
+fn examine(a: &Mover, b: &Mover) -> Option<Hit> {
+    let apart = Apart::new(a, b);
+    let (limit_v, now_v) = vertical_limits(a, b);
+    let closest = apart.closest_tick();
+    let is_current = apart.is_current(now_v);
+    let first = if is_current { 0 } else { apart.first_conflict(limit_v, closest)? };
+    let horizontal = |tick| apart.squared_distance(tick).isqrt() / HALF_METRE;
+    let vertical = |tick| apart.height(tick) / FEET_25;
+    Some(Hit {
         first_key: a.key,
         second_key: b.key,
+        first,
         closest,
         chs: horizontal(0).min(0xFF_FFFF),
         mhs: horizontal(closest).min(0xFFFF),
         cvs: vertical(0).min(0xFFFF),
         mvs: vertical(closest).min(0xFFFF),
-    }
+        is_current,
+        is_urgent: is_current || first <= URGENT,
+    })
 }
 
 /// The hits of all pairs, in key order.
 fn hits(movers: &[Mover]) -> Vec<Hit> {
     let mut hits = Vec::new();
     for (i, a) in movers.iter().enumerate() {
-        for b in movers[i + 1..].iter().filter(|b| is_current(a, b)) {
-            hits.push(hit(a, b));
-        }
+        let near = movers[i + 1..].iter().filter(|b| !stay_apart(a, b));
+        hits.extend(near.filter_map(|b| examine(a, b)));
     }
     hits
+}
+
+impl Hit {
+    fn begins_alert(&self) -> bool {
+        self.is_urgent || CONFIRMING_HIT == 1
+    }
 }
 
 fn message(number: usize, hit: &Hit) -> Vec<u8> {
@@ -361,14 +512,16 @@ fn message(number: usize, hit: &Hit) -> Vec<u8> {
     bytes.extend((number as u16).to_be_bytes());
     bytes.push(2);
     bytes.extend(first);
-    bytes.extend([0xFC, 0, 0, 0]);
-    bytes.extend(&(hit.closest as u32).to_be_bytes()[1..]);
-    bytes.extend(&(hit.chs as u32).to_be_bytes()[1..]);
-    bytes.extend((hit.mhs as u16).to_be_bytes());
-    bytes.extend((hit.cvs as u16).to_be_bytes());
-    bytes.extend((hit.mvs as u16).to_be_bytes());
+    bytes.push(0xFC);
+    for figure in [hit.first, hit.closest, hit.chs] {
+        bytes.extend(&(figure as u32).to_be_bytes()[1..]);
+    }
+    for figure in [hit.mhs, hit.cvs, hit.mvs] {
+        bytes.extend((figure as u16).to_be_bytes());
+    }
     bytes.extend(second);
-    bytes.extend([7, 7, sac, sic, second_sac, second_sic, 3]);
+    let flags = u8::from(hit.is_urgent) | u8::from(hit.is_current) << 1;
+    bytes.extend([7, 7, sac, sic, second_sac, second_sic, flags]);
     bytes
 }
 
@@ -385,17 +538,28 @@ fn pack(messages: &[Vec<u8>]) -> Vec<u8> {
 /// Ok with the status of a run whose work is done, else the status that ends it.
 fn replay(words: &[String]) -> Result<u8, u8> {
     // The site's values are constants above: those of examples/site-a.toml.
-    let [command, option, _site, name] = words else { return Err(2) };
-    if command != "replay" || option != "--site" {
+    let [command, option, _site, names @ ..] = words else { return Err(2) };
+    if command != "replay" || option != "--site" || names.is_empty() || names.len() > MOST_FEEDS {
         return Err(2);
     }
-    let mut feed = std::fs::read(name).map_err(|_| 4)?;
-    feed.truncate(FEED_LIMIT);
-    let (movers, clean) = read_table(&feed).ok_or(3)?;
-    let messages = hits(&movers).iter().enumerate().map(|(i, hit)| message(i, hit)).collect::<Vec<_>>();
+    let mut table = Table::new();
+    let (mut is_clean, mut latest) = (true, START);
+    for (feed, name) in (0..).zip(names) {
+        let mut octets = std::fs::read(name).map_err(|_| 4)?;
+        octets.truncate(FEED_LIMIT);
+        let (clean, latest_here) = put_feed(&mut table, feed, &octets);
+        is_clean &= clean;
+        latest = latest.max(latest_here);
+    }
+    if latest >= END {
+        return Err(3);
+    }
+    let hits = hits(&movers(&table));
+    let alerts = hits.iter().filter(|hit| hit.begins_alert());
+    let messages = alerts.enumerate().map(|(i, hit)| message(i, hit)).collect::<Vec<_>>();
     let mut out = std::io::stdout().lock();
     out.write_all(&pack(&messages)).and_then(|()| out.flush()).map_err(|_| 5)?;
-    Ok(if clean { 0 } else { 7 })
+    Ok(if is_clean { 0 } else { 7 })
 }
 
 fn main() -> ExitCode {
