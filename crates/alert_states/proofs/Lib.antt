@@ -1,0 +1,11 @@
+mod Bits
+mod Bounds
+mod Cycles
+mod Known
+mod Marks
+mod Merging
+mod Numbering
+mod Orders
+mod Renewals
+mod Rows
+mod UpdateRows

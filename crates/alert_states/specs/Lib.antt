@@ -1,0 +1,6 @@
+pub mod Events
+pub mod Held
+pub mod Merge
+pub mod States
+pub mod Steps
+pub mod Subjects
