@@ -6,4 +6,7 @@ mod Newest
 mod Orders
 mod Proper
 mod Puts
+mod Ranked
+mod Same
 mod TableRows
+mod Within

@@ -87,6 +87,19 @@ by_time a b Less rest at low = let below : a <ℤ b = subst (λ o. MatchOrdering
 by_time a b Equal rest at low = let same : a ≡ b = subst (λ o. MatchOrdering o (a <ℤ b) (a ≡ b) (b <ℤ a)) at (int_ranks a b) in omega (arith, ints)
 by_time a b Greater rest at low = absurd (cc)
 
+level_at : (a b : Stamped) (ab : Ordering) → rank_cmp a b ≡ ab → is_gt ab ≡ false → outranks b a ≡ false → rank_cmp a b ≡ Equal
+level_at a b Less at low ba = let above : outranks b a ≡ true = ap is_gt (rank_total.antisymm b a ∙ ap ordering_reverse at) in absurd (cc)
+level_at a b Equal at low ba = at
+level_at a b Greater at low ba = absurd (cc)
+
+-- two records of which neither outranks the other are at the same place of the same feed
+pub same_rank : (a b : Stamped) → outranks a b ≡ false → outranks b a ≡ false → (a.feed ≡ b.feed) × (a.place ≡ b.place)
+same_rank a b ab ba =
+    let level = level_at a b (rank_cmp a b) refl ab ba in
+    let time = then_equal (int_cmp a.at b.at) (ordering_then (nat_cmp b.feed a.feed) (nat_cmp a.place b.place)) level in
+    let feed = then_equal (nat_cmp b.feed a.feed) (nat_cmp a.place b.place) time.1 in
+    (sym (nat_equal b.feed a.feed feed.0), nat_equal a.place b.place feed.1)
+
 -- who doesn't outrank a record was told no later
 pub no_later : (a b : Stamped) → outranks a b ≡ false → a.at ≤ℤ b.at
 no_later a b low = by_time a.at b.at (int_cmp a.at b.at) (ordering_then (nat_cmp b.feed a.feed) (nat_cmp a.place b.place)) refl low

@@ -1,6 +1,7 @@
 -- When the tracks of a feed were told, and in which cycles (this project's profile).
 use Rattle.std.specs.Prelude.{ℕ, ◌+◌, List, [], ◌∷◌, ℤ, ◌≤ℤ◌, fold}
 use Rattle.std.specs.Int.{int_max}
+use Rattle.std.specs.List.{enumerate_from, flat_map}
 use Rattle.track_motion.specs.declared.rank.Stamped.{Stamped}
 use Rattle.track_motion.specs.declared.track.Track.{Track}
 use Rattle.track_table.specs.Times.{AreCycles, IsTime, at_near, window_of}
@@ -50,3 +51,7 @@ stamps_from clock feed place (track ∷ tracks) = stamp_of clock feed place trac
 -- the stamps of all tracks of a feed
 abbrev pub stamps_of : ℤ → ℤ → ℕ → List Track → List Stamped
 stamps_of start period feed tracks = stamps_from (clock_at_start start period) feed 0 tracks
+
+-- the stamps of all feeds' tracks; feeds are numbered from 0
+abbrev pub stamps_of_feeds : ℤ → ℤ → List (List Track) → List Stamped
+stamps_of_feeds start period feeds = flat_map (λ feed. stamps_of start period feed.0 feed.1) (enumerate_from 0 feeds)

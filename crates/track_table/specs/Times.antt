@@ -1,6 +1,7 @@
 -- Times in ticks of 1/128 s that go on over midnight, and cycles of one length, one after the other (this project's profile).
 use Rattle.std.specs.Prelude.{◌≡◌, ℕ, ◌+◌, ◌/◌, ◌^◌, ℤ, pos, neg_ℤ, ◌+ℤ◌, ◌-ℤ◌, ◌*ℤ◌, ◌≤ℤ◌, ◌<ℤ◌, unsigned_abs}
 use Rattle.std.specs.Int.{int_rem_euclid}
+use Rattle.track_motion.specs.declared.motion.TheConstants.{LONGEST_AGE}
 use Rattle.track_motion.specs.declared.track.TheConstants.{TICKS_PER_DAY}
 
 -- ticks in a day, and in half of one
@@ -30,6 +31,13 @@ pub record IsTime (time : ℤ) : Type 0 where
 pub record AreCycles (start period : ℤ) : Type 0 where
   pub begin : IsTime start
   pub last : pos 1 ≤ℤ period
+
+-- cycles that begin at a time of day, each at least a tick long and no longer than tracks are moved on
+pub record AreDayCycles (start period : ℤ) : Type 0 where
+  pub start_low : pos 0 ≤ℤ start
+  pub start_high : start <ℤ day
+  pub period_low : pos 1 ≤ℤ period
+  pub period_high : period ≤ℤ pos LONGEST_AGE
 
 -- when a cycle ends and its table is taken; cycles are numbered from 0
 abbrev pub cycle_time : ℤ → ℤ → ℕ → ℤ

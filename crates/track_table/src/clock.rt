@@ -9,6 +9,10 @@ use track_motion::{Stamped, TICKS_PER_DAY, Track};
 /// Ticks in a day.
 const DAY: i64 = TICKS_PER_DAY as i64;
 
+/// The most tracks of a feed whose clock is sure to keep to times that leave room to add in 64 bits, where
+/// the cycles begin at a time of day.
+pub const MOST_TRACKS: u64 = 1 << 39;
+
 /// The clock of a feed: a record tells the time of day, and the clock which day it is of.
 #[derive(Drop)]
 pub struct FeedClock {

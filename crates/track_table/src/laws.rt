@@ -1,14 +1,17 @@
 //! Laws of the definitions: each is the contract of a function that does nothing.
-ghost use Rattle.std.specs.Prelude.{◌≡◌, ℕ, ◌≤◌, List, [], ◌∷◌, ◌++◌, length, map, Some, None, ℤ, pos, ◌≤ℤ◌, ◌<ℤ◌, ◌+ℤ◌, ◌*ℤ◌, All, Contains, IsTrue};
+ghost use Rattle.std.specs.Prelude.{◌≡◌, ℕ, ◌<◌, ◌≤◌, List, [], ◌∷◌, ◌++◌, length, map, Some, None, ℤ, pos, ◌≤ℤ◌, ◌<ℤ◌, ◌+ℤ◌, ◌*ℤ◌, All, Contains, IsTrue};
 ghost use Rattle.std.specs.List.Sorted.{IsNonDecreasingBy, IsStrictlySortedBy};
 ghost use Rattle.track_motion.specs.declared.rank.Stamped.{Stamped};
 ghost use Rattle.track_motion.specs.declared.track.Track.{Track};
 ghost use Rattle.track_motion.specs.declared.motion.TheConstants.{LONGEST_AGE};
 ghost use Rattle.track_motion.specs.Keys.{key_cmp};
+ghost use Rattle.track_table.specs.declared.clock.TheConstants.{MOST_TRACKS};
+ghost use Rattle.track_table.specs.Kept.{AreDue};
+ghost use Rattle.track_table.specs.Order.{AreRanked, AreSame};
 ghost use Rattle.track_table.specs.Proper.{IsProper, IsTold, frozen_of};
-ghost use Rattle.track_table.specs.Stamps.{clock_after, clock_of, stamp_of, stamps_of};
+ghost use Rattle.track_table.specs.Stamps.{clock_after, clock_of, stamp_of, stamps_of, stamps_of_feeds};
 ghost use Rattle.track_table.specs.Tables.{IsHighest, IsRowOf, due, highest, is_row, of_key, table};
-ghost use Rattle.track_table.specs.Times.{IsNear, at_near, cycle_time, half_day};
+ghost use Rattle.track_table.specs.Times.{AreDayCycles, IsNear, IsTime, at_near, cycle_time, half_day};
 
 /// A time of day names one time near the present one.
 pub fn one_near_time()
@@ -40,6 +43,21 @@ pub fn windows_of_a_feed()
     ensures inside { (start period : ℤ) (feed : ℕ) (tracks : List Track) → pos 1 ≤ℤ period → All (λ s. s.at <ℤ cycle_time start period s.window) (stamps_of start period feed tracks) }
 {}
 
+/// Where cycles begin at a time of day, a feed of at most `MOST_TRACKS` tracks keeps to times: after fewer of them
+/// the next one is told at a time, its window ends at one, and so does each earlier cycle.
+pub fn feeds_keep_to_time()
+    ensures stamp { (start period : ℤ) (tracks : List Track) (track : Track) → AreDayCycles start period → length tracks < MOST_TRACKS
+        → IsTime (at_near (clock_of start period tracks).latest track.time) }
+    ensures window { (start period : ℤ) (feed place : ℕ) (tracks : List Track) (track : Track) → AreDayCycles start period → length tracks < MOST_TRACKS
+        → IsTime (cycle_time start period (stamp_of (clock_of start period tracks) feed place track).window) }
+    ensures earlier { (start period : ℤ) (k l : ℕ) → AreDayCycles start period → k ≤ l → IsTime (cycle_time start period l) → IsTime (cycle_time start period k) }
+{}
+
+/// Of the records of all feeds no two have the same rank: those of one feed are at different places.
+pub fn feeds_are_ranked()
+    ensures { (start period : ℤ) (feeds : List (List Track)) → AreRanked (stamps_of_feeds start period feeds) }
+{}
+
 /// The highest of records is one of them that none outranks; there is one unless there are no records.
 pub fn highest_is_one()
     ensures one { (records : List Stamped) (r : Stamped) → highest records ≡ Some r → IsHighest records r }
@@ -53,6 +71,14 @@ pub fn rows_of_a_table()
     ensures each { (start period timeout : ℤ) (k : ℕ) (records : List Stamped) → All (IsRowOf start period timeout k records) (table start period timeout k records) }
     ensures all { (start period timeout : ℤ) (k : ℕ) (records : List Stamped) (r : Stamped)
         → highest (of_key r.track.key (due k records)) ≡ Some r → IsTrue (is_row (cycle_time start period k) timeout r) → Contains (table start period timeout k records) r }
+{}
+
+/// A table doesn't depend on the order in which the records that are due are listed, nor on how often each is,
+/// where no two have the same rank.
+pub fn tables_of_the_same_records()
+    ensures table { (start period timeout : ℤ) (k : ℕ) (records others : List Stamped) → AreRanked records → AreSame (due k records) (due k others)
+        → table start period timeout k records ≡ table start period timeout k others }
+    ensures due { (k : ℕ) (records : List Stamped) → AreDue k records → due k records ≡ records }
 {}
 
 /// A table of records as feeds tell them is proper, where they are rows for no longer than tracks are moved on.

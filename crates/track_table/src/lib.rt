@@ -6,7 +6,7 @@ pub mod laws;
 pub mod rows;
 pub mod table;
 
-pub use clock::FeedClock;
+pub use clock::{FeedClock, MOST_TRACKS};
 pub use rows::Rows;
 pub use table::{Frozen, Put, Table};
 
