@@ -1,3 +1,4 @@
 pub mod Tables
 pub mod Readings
 pub mod Bodies
+pub mod Usable

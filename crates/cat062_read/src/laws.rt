@@ -1,6 +1,7 @@
 //! Laws of a body's records: each is the contract of a function that does nothing.
-ghost use Rattle.std.specs.Prelude.{ℕ, List};
-ghost use Rattle.cat062_read.specs.Records.{HasOneReading, HasReading};
+ghost use Rattle.std.specs.Prelude.{ℕ, ◌*◌, ◌≤◌, List, count_by, length};
+ghost use Rattle.cat062_read.specs.Records.{HasOneReading, HasReading, records};
+ghost use Rattle.cat062_read.specs.Tracks.{is_usable};
 
 use asterix_fields::laws::read_as_spelled;
 
@@ -15,6 +16,14 @@ pub fn some_reading()
 /// two readings of a body differ in what is read or in what is refused.
 pub fn one_reading()
     ensures { (body : List ℕ) → HasOneReading body }
+{
+    read_as_spelled();
+}
+
+/// A usable record takes two octets at least, those of its source. So a body has at most half as many usable
+/// records as octets.
+pub fn usable_records_are_long()
+    ensures { (body : List ℕ) → count_by is_usable (records body) * 2 ≤ length body }
 {
     read_as_spelled();
 }
