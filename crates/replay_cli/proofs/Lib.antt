@@ -11,3 +11,4 @@ pub mod Sites
 pub mod Told
 pub mod Under
 pub mod Unplanned
+pub mod Usable

@@ -8,8 +8,9 @@ use Rattle.asterix_blocks.specs.declared.blocks.End.{End}
 use Rattle.asterix_blocks.specs.Cutting.{Cuts}
 use Rattle.asterix_blocks.specs.Framing.{blocks}
 use Rattle.asterix_blocks.specs.Held.{Held}
-use Rattle.cat062_read.specs.Tracks.{IsPlaced}
+use Rattle.cat062_read.specs.Tracks.{IsPlaced, is_usable}
 use Rattle.replay_cli.specs.declared.input.Gathered.{Gathered}
+use Rattle.replay_cli.specs.declared.input.TheConstants.{MOST_USABLE}
 use Rattle.replay_cli.specs.Content.{Content, content, is_of_category, records_of, refusals_of}
 use Rattle.replay_cli.specs.Run.{Files, feed_of, first_lacking, read_of}
 
@@ -68,6 +69,11 @@ abbrev pub TextOf : Option Files → List ℕ → ℕ → List ℕ → Type 0
 TextOf None name most text = ⊤
 TextOf (Some files) name most text = (bytes : List ℕ) × (bytes_of name files ≡ Some bytes) × (text ≡ take most bytes)
 
--- each record of the feeds is placed as its octets can say
-abbrev pub ArePlaced : List Content → Type 0
-ArePlaced feeds = All (λ feed. All IsPlaced feed.records) feeds
+-- what the octets of a feed can tell: each record is placed so, and no more of them are usable
+pub record IsTellable (input : Content) : Type 0 where
+  pub placed : All IsPlaced input.records
+  pub few : count_by is_usable input.records ≤ MOST_USABLE
+
+-- each of the feeds is such as its octets can tell
+abbrev pub AreTellable : List Content → Type 0
+AreTellable feeds = All IsTellable feeds

@@ -4,17 +4,21 @@ ghost use Rattle.outside_io.specs.Faults.{Rose};
 ghost use Rattle.asterix_blocks.specs.Cutting.{StandsAt};
 ghost use Rattle.cat062_read.specs.Tracks.{IsPlaced};
 ghost use Rattle.replay_cli.specs.Content.{is_of_category, records_of, refusals_of};
-ghost use Rattle.replay_cli.specs.Feeds.{AddsBlocks, ReadsText, ReadsWhole, TakesAtMost, with_one};
+ghost use Rattle.replay_cli.specs.Feeds.{AddsBlocks, IsTellable, ReadsText, ReadsWhole, TakesAtMost, with_one};
 
 use crate::content::Input;
 use asterix_blocks::{Block, Cutter, FEED_ROOM};
 use asterix_fields::sizes::HEADER_LENGTH;
+use cat062_read::laws::usable_records_are_long;
 use cat062_read::{CATEGORY, Raw062, Refused, read_block};
 use outside_io::Source;
 use std::alloc::{AllocError, Global};
 
 /// The octets that are asked for at a time.
 const PIECE: usize = 16_384;
+
+/// The usable records of a feed at most: half of its octets, since each takes two at least.
+pub const MOST_USABLE: u64 = 1 << 39;
 
 /// Why nothing was read of a name or of a source.
 #[derive(Clone, Copy, Debug, PartialEq, Eq)]
@@ -85,12 +89,14 @@ fn add_blocks(alloc: Global, cutter: &mut Cutter, gathered: &mut Gathered) -> Re
 /// The content of what a source has left, to its end or to a length that no block has.
 pub fn read_whole<S: Source>(alloc: Global, source: &mut S) -> Result<Input, Unread>
     ensures told { IfOk result (λ input. ReadsWhole (S.left source.old) input) }
-    ensures placed { IfOk result (λ input. All IsPlaced input.records) }
+    ensures tellable { IfOk result IsTellable }
     ensures opened { IsErrOf result Unread.Unopened → ⊥ }
     ensures failed { IsErrOf result Unread.Broken → Rose (S.faults source.old) (S.faults source.new) }
     ensures kept { (IsErrOf result Unread.Broken → ⊥) → S.faults source.new ≡ S.faults source.old }
     ensures later { S.faults source.old ≤ S.faults source.new }
 {
+    // The proof takes this law; the call does nothing.
+    usable_records_are_long();
     let mut cutter = Cutter::new(alloc)?;
     let mut gathered = Gathered {
         blocks: 0,

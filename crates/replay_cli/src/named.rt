@@ -1,11 +1,10 @@
 //! What stands under a name: the site of a site file, and the content of a feed. What is opened is closed again,
 //! whatever came.
-ghost use Rattle.std.specs.Prelude.{◌≡◌, ◌≤◌, ◌⊎◌, false, length, All, Err, IfErr, IfOk, IsErrOf, Ok};
+ghost use Rattle.std.specs.Prelude.{◌≡◌, ◌≤◌, ◌⊎◌, false, length, Err, IfErr, IfOk, IsErrOf, Ok};
 ghost use Rattle.outside_io.specs.Faults.{Rose};
 ghost use Rattle.outside_io.specs.Names.{Lacks};
-ghost use Rattle.cat062_read.specs.Tracks.{IsPlaced};
 ghost use Rattle.site_params.specs.Ranges.{IsSite};
-ghost use Rattle.replay_cli.specs.Feeds.{ArePlaced, ReadsEach, ReadsNamed, TextOf};
+ghost use Rattle.replay_cli.specs.Feeds.{AreTellable, IsTellable, ReadsEach, ReadsNamed, TextOf};
 ghost use Rattle.replay_cli.specs.Stops.{IsReading, StopsAmong, StopsSite, fault_of, leaves_unread as unread, site_fault};
 
 use crate::content::Input;
@@ -80,7 +79,7 @@ fn text_under<W: World>(
 /// The content of the feed under a name.
 pub fn feed_under<W: World>(alloc: Global, world: &mut W, name: &str) -> Result<Input, Unread>
     ensures told { IfOk result (λ input. ReadsNamed (W.files world.old) name.now input) }
-    ensures placed { IfOk result (λ input. All IsPlaced input.records) }
+    ensures tellable { IfOk result IsTellable }
     ensures opened { IsErrOf result Unread.Unopened → Lacks (W.files world.old) name.now ⊎ Rose (W.faults world.old) (W.faults world.new) }
     ensures failed { IsErrOf result Unread.Broken → Rose (W.faults world.old) (W.faults world.new) }
     ensures lacking { Lacks (W.files world.old) name.now → IsErrOf result Unread.Unopened }
@@ -136,7 +135,7 @@ pub fn feeds_of<W: World>(
     names: Names,
 ) -> Result<Vec<Input>, FaultText>
     ensures told { IfOk result (λ inputs. ReadsEach (W.files world.old) names inputs.items) }
-    ensures placed { IfOk result (λ inputs. ArePlaced inputs.items) }
+    ensures tellable { IfOk result (λ inputs. AreTellable inputs.items) }
     ensures count { IfOk result (λ inputs. length inputs.items ≡ length names) }
     ensures fault { IfErr result (StopsAmong (W.files world.old) (W.faults world.old) (W.faults world.new) names) }
 

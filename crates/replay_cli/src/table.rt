@@ -5,7 +5,7 @@ ghost use Rattle.cat062_read.specs.Tracks.{IsPlaced};
 ghost use Rattle.site_params.specs.Ranges.{IsSite};
 ghost use Rattle.track_motion.specs.Motions.{CanMove};
 ghost use Rattle.replay_cli.specs.Counts.{count_in};
-ghost use Rattle.replay_cli.specs.Feeds.{ArePlaced};
+ghost use Rattle.replay_cli.specs.Feeds.{AreTellable};
 ghost use Rattle.replay_cli.specs.Cycle.{taken_at};
 ghost use Rattle.replay_cli.specs.Reference.{AreInCycle, AreSupported, rows, stamps, stamps_told, tracks_of};
 ghost use Rattle.replay_cli.specs.Rows.{IsOfCycle, IsTimed, Puts};
@@ -101,7 +101,7 @@ fn put_feeds(
     table: &mut Table,
 ) -> Result<Vec<FeedCount>, Unserved>
     requires site { IsTimed site.now }
-    requires placed { ArePlaced inputs.now }
+    requires tellable { AreTellable inputs.now }
     requires few { length inputs.now ≤ MOST_FEEDS }
     ensures unsupported { IsErrOf result Unserved.Unsupported → AreSupported site.now inputs.now → ⊥ }
     ensures told { OnOk result (All (IsOfCycle site.now) (stamps site.now inputs.now)) }
@@ -119,7 +119,7 @@ fn put_feeds(
 /// The table of cycle 0 over these feeds.
 pub fn table_of(alloc: Global, site: &Site, inputs: &[Input]) -> Result<Tabled, Unserved>
     requires site { IsSite site.now }
-    requires placed { ArePlaced inputs.now }
+    requires tellable { AreTellable inputs.now }
     requires few { length inputs.now ≤ MOST_FEEDS }
     ensures unsupported { IsErrOf result Unserved.Unsupported → AreSupported site.now inputs.now → ⊥ }
     ensures supported { OnOk result (AreSupported site.now inputs.now) }

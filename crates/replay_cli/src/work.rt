@@ -4,7 +4,7 @@ ghost use Rattle.std.specs.List.{list_any};
 ghost use Rattle.site_params.specs.Ranges.{IsSite};
 ghost use Rattle.replay_cli.specs.Content.{are_intact as intact};
 ghost use Rattle.replay_cli.specs.Counts.{cycles_of, report_by};
-ghost use Rattle.replay_cli.specs.Feeds.{ArePlaced};
+ghost use Rattle.replay_cli.specs.Feeds.{AreTellable};
 ghost use Rattle.replay_cli.specs.Reference.{AreSupported};
 ghost use Rattle.replay_cli.specs.Works.{IsWork};
 ghost use Rattle.replay_cli.specs.declared.words.plan.TheConstants.{MOST_FEEDS};
@@ -92,7 +92,7 @@ pub fn work_of<L: Ledger>(
     steps: &mut Steps<L>,
 ) -> Result<Work, FaultText>
     requires site { IsSite site.now }
-    requires placed { ArePlaced inputs.now }
+    requires tellable { AreTellable inputs.now }
     requires few { length inputs.now ≤ MOST_FEEDS }
     ensures work { IfOk result (IsWork site.now inputs.now) }
     ensures fault { IfErr result (λ e. (e ≡ FaultText.NoMemory) ⊎ ((e ≡ FaultText.NotBuilt) × (AreSupported site.now inputs.now → ⊥))) }

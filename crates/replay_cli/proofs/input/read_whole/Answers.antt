@@ -8,6 +8,7 @@ use Rattle.replay_cli.specs.Feeds.{Gathers}
 use Rattle.replay_cli.specs.Content.{Content}
 use Rattle.replay_cli.specs.Feeds.{content_as}
 use Rattle.replay_cli.proofs.Read.{read_to_end, read_to_room, read_whatever, read_of_fed, read_of_bad, at_end_before, consumes_nothing, consumes_more}
+use Rattle.replay_cli.proofs.Usable.{few_of_fed}
 use Rattle.replay_cli.proofs.input.read_whole.Goals as goal
 use Rattle.replay_cli.proofs.input.read_whole.Goals.{then-loop-room-test+else-not-has_bad_length, else-loop-room-test, then-loop-room-test+then-not-has_bad_length+in-Ok+then-count-eq0}
 
@@ -81,3 +82,10 @@ returns-clause-told g c =
           (at_end_before left_now (g.S.Source.left w.read.new.self) (rw none at w.in-Ok.ensures.bytes.0) (w.in-Ok.ensures.bytes.1 none (omega arith)))
           within (read_of_fed c.loop-room.gathered ended r.0 within r.3 ends)
     ])
+
+pub returns-clause-tellable : goal.returns-clause-tellable
+returns-clause-tellable g c =
+    let r = c.loop-room.invariant.read in
+    let whole = r.4 in
+    let within : length r.0 ≤ FEED_ROOM = omega arith in
+    rw c.new-4.ensures (record { placed = c.loop-room.invariant.placed; few = few_of_fed c.usable_records_are_long.ensures r.0 c.loop-room.gathered.records.items within r.3.records })
