@@ -1,5 +1,6 @@
 mod Bits
 mod Bounds
+mod Carried
 mod Cycles
 mod Known
 mod Marks

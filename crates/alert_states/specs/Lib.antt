@@ -1,4 +1,5 @@
 pub mod Events
+pub mod Figures
 pub mod Held
 pub mod Merge
 pub mod States

@@ -1,11 +1,12 @@
 //! Laws of the definitions: each is the contract of a function that does nothing.
-ghost use Rattle.std.specs.Prelude.{◌≡◌, ℕ, ◌+◌, ◌≤◌, true, false, List, [], ◌∷◌, length, map, count_by, Option, Some};
+ghost use Rattle.std.specs.Prelude.{◌≡◌, ℕ, ◌+◌, ◌≤◌, true, false, List, [], ◌∷◌, length, map, count_by, All, Option, Some};
 ghost use Rattle.std.specs.List.Sorted.{IsStrictlySortedBy};
 ghost use Rattle.site_params.specs.declared.site.Confirm.{Confirm};
 ghost use Rattle.alert_states.specs.declared.event.Event.{Event};
 ghost use Rattle.alert_states.specs.declared.event.Hit.{Hit};
 ghost use Rattle.alert_states.specs.declared.event.Subject.{Subject};
 ghost use Rattle.alert_states.specs.Events.{events, firsts, is_first};
+ghost use Rattle.alert_states.specs.Figures.{AreInRoom, FitsMessage};
 ghost use Rattle.alert_states.specs.States.{IsQuiet, is_live, is_on, live_subjects};
 ghost use Rattle.alert_states.specs.Subjects.{AreInOrder, confirm_of, marks, subject_cmp, subjects};
 
@@ -33,4 +34,10 @@ pub fn firsts_are_told()
 /// The events of a cycle stand in the order of their subjects, each subject once.
 pub fn events_in_order()
     ensures { (confirms : List Confirm) (past : List (List Hit)) → IsStrictlySortedBy subject_cmp (map (λ e. e.subject) (events confirms past)) }
+{}
+
+/// An event carries the figures of a hit of its cycle: where those of all its hits fit a message, so do those of
+/// its events.
+pub fn events_carry_hits()
+    ensures { (confirms : List Confirm) (past : List (List Hit)) (hits : List Hit) → AreInRoom hits → All FitsMessage (events confirms (hits ∷ past)) }
 {}
