@@ -1,0 +1,5 @@
+pub mod Found
+pub mod Keys
+pub mod Order
+pub mod Pairs
+pub mod Sites

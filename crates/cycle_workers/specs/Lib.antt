@@ -1,0 +1,3 @@
+pub mod Eligible
+pub mod Hits
+pub mod Movers

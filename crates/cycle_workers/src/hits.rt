@@ -1,0 +1,98 @@
+//! All hits of a cycle.
+ghost use Rattle.std.specs.Prelude.{◌≡◌, ◌+◌, ◌^◌, ◌≤◌, ◌++◌, length, IfOk, OnOk};
+ghost use Rattle.std.specs.List.{filter_map};
+ghost use Rattle.alert_states.specs.Figures.{AreInRoom};
+ghost use Rattle.alert_states.specs.Subjects.{AreInOrder};
+ghost use Rattle.site_params.specs.Ranges.{IsSite};
+ghost use Rattle.track_table.specs.Proper.{IsProper};
+ghost use Rattle.cycle_workers.specs.Hits.{count_examined, count_pairs, hit_of, hits_of, stca_hits};
+ghost use Rattle.cycle_workers.specs.Movers.{AreMovers, IsMover};
+
+use crate::NoMemory;
+use crate::movers::{Mover, movers_of};
+use crate::pair::examine_pair;
+use alert_states::{Hit, Net};
+use outside_io::Steps;
+use site_params::Site;
+use std::alloc::Global;
+use std::sync::ledger::Ledger;
+use track_table::Frozen;
+
+/// The hits of a table, and how many pairs were examined for them.
+#[derive(Debug, Drop)]
+pub struct Hits {
+    pub hits: Vec<Hit>,
+    pub examined: u64,
+}
+
+/// Adds the hits of a row with the rows after it.
+fn add_hits<L: Ledger>(
+    site: &Site,
+    a: &Mover,
+    others: &[Mover],
+    hits: &mut Vec<Hit>,
+    steps: &mut Steps<L>,
+) -> Result<(), NoMemory>
+    requires site { IsSite site.now }
+    requires a { IsMover site.now a.now }
+    requires others { AreMovers site.now others.now }
+    requires room { AreInRoom hits.old.items }
+    ensures hits { OnOk result (hits.new.items ≡ hits.old.items ++ filter_map (hit_of site.now a.now) others.now) }
+    ensures room { OnOk result (AreInRoom hits.new.items) }
+    ensures counted { OnOk result (steps.new ≡ steps.old + length others.now) }
+    ensures later { steps.old ≤ steps.new }
+{
+    for b in others {
+        if let Some(hit) = examine_pair(site, a, b, steps) {
+            hits.push(hit)?;
+        }
+    }
+    Ok(())
+}
+
+/// The hits of all pairs, and how many pairs there are.
+fn pair_hits<L: Ledger>(
+    alloc: Global,
+    site: &Site,
+    movers: &[Mover],
+    steps: &mut Steps<L>,
+) -> Result<Hits, NoMemory>
+    requires site { IsSite site.now }
+    requires movers { AreMovers site.now movers.now }
+    requires few { length movers.now ≤ 2 ^ 32 }
+    ensures hits { IfOk result (λ found. found.hits.items ≡ stca_hits site.now movers.now) }
+    ensures room { IfOk result (λ found. AreInRoom found.hits.items) }
+    ensures examined { IfOk result (λ found. found.examined ≡ count_pairs movers.now) }
+    ensures counted { IfOk result (λ found. steps.new ≡ steps.old + found.examined) }
+    ensures later { steps.old ≤ steps.new }
+{
+    let mut hits = Vec::new(alloc);
+    let mut examined = 0;
+    for i in 0..movers.len() {
+        let others = &movers[i + 1..];
+        add_hits(site, &movers[i], others, &mut hits, steps)?;
+        examined += others.len() as u64;
+    }
+    Ok(Hits { hits, examined })
+}
+
+/// All hits of a table in the order of subjects. It examines each pair of rows that are eligible for STCA once,
+/// in one step.
+pub fn hits_one<L: Ledger>(
+    alloc: Global,
+    f: &Frozen,
+    site: &Site,
+    steps: &mut Steps<L>,
+) -> Result<Hits, NoMemory>
+    requires table { IsProper f.now }
+    requires site { IsSite site.now }
+    ensures hits { IfOk result (λ found. found.hits.items ≡ hits_of site.now f.now) }
+    ensures order { IfOk result (λ found. AreInOrder found.hits.items) }
+    ensures room { IfOk result (λ found. AreInRoom found.hits.items) }
+    ensures examined { IfOk result (λ found. found.examined ≡ count_examined site.now f.now) }
+    ensures counted { IfOk result (λ found. steps.new ≡ steps.old + found.examined) }
+    ensures later { steps.old ≤ steps.new }
+{
+    let movers = movers_of(alloc, f, site, Net::Stca)?;
+    pair_hits(alloc, site, &movers, steps)
+}
