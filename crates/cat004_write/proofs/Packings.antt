@@ -8,7 +8,7 @@ use Rattle.asterix_fields.specs.declared.sizes.TheConstants.{HEADER_LENGTH}
 use Rattle.cat004_write.specs.declared.message.TheConstants.{MESSAGE_ROOM}
 use Rattle.cat004_write.specs.declared.packer.TheConstants.{CATEGORY, PACKED_ROOM}
 use Rattle.cat004_write.specs.Blocks.{Packing, Packs, pack, pack_from, block, fits, last_block}
-use Rattle.cat004_write.specs.LastBlock.{HasRoom, IsWhole, extended, packing_of}
+use Rattle.cat004_write.specs.LastBlock.{HasRoom, HasSpare, IsWhole, extended, packing_of}
 
 -- the blocks of all messages
 pub Packs-all : (p : Packing) (ms : List (List ℕ)) → Packs p ms → p.closed ++ last_block p.contents ≡ pack ms
@@ -134,6 +134,10 @@ IsWhole-joined old new m last whole some room now =
     let more : 0 < length (contents ++ m) = omega (arith, length-append contents m) in
     let fitting : HEADER_LENGTH + length (contents ++ m) ≤ PACKED_ROOM = omega (arith, length-append contents m, length-drop last old, ap length is) in
     subst P (sym now) (IsWhole-block (take last old) (contents ++ m) last place more fitting)
+
+-- a message leaves the capacity for one fewer
+pub spare_left : (before capacity after larger spare left : ℕ) → HasSpare before capacity spare → capacity ≤ larger → after ≤ larger → after ≤ before + (HEADER_LENGTH + MESSAGE_ROOM) → left ≡ spare - 1 → HasSpare after larger left
+spare_left before capacity after larger spare left has more within one counted = omega arith
 
 -- the octets of a length behind the category
 pub set_length : (front rest : List ℕ) (place category x y high low : ℕ) → place ≡ length front → set (set (front ++ category ∷ x ∷ y ∷ rest) (place + 1) high) (place + 2) low ≡ front ++ category ∷ high ∷ low ∷ rest

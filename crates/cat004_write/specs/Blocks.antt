@@ -35,6 +35,11 @@ pub record Packing : Type 0 where
   pub closed : List ℕ
   pub contents : List ℕ
 
+-- what a packer holds: its messages in blocks, and how many more it has taken the memory for
+pub record Held : Type 0 where
+  pub blocks : Packing
+  pub spare : ℕ
+
 -- the packer was given these messages since it was last emptied: whatever follows, its closed blocks
 -- and what comes of the open one are the blocks of all
 abbrev pub Packs : Packing → List (List ℕ) → Type 0

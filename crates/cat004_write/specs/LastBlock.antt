@@ -1,6 +1,7 @@
 -- Octets that are whole blocks, the last of which begins at a place and may take more (this project's profile).
-use Rattle.std.specs.Prelude.{◌≡◌, ℕ, ◌+◌, ◌≤◌, List, ◌++◌, length, take, drop}
+use Rattle.std.specs.Prelude.{◌≡◌, ℕ, ◌+◌, ◌*◌, ◌≤◌, List, ◌++◌, length, take, drop}
 use Rattle.asterix_fields.specs.declared.sizes.TheConstants.{HEADER_LENGTH}
+use Rattle.cat004_write.specs.declared.message.TheConstants.{MESSAGE_ROOM}
 use Rattle.cat004_write.specs.declared.packer.TheConstants.{PACKED_ROOM}
 use Rattle.cat004_write.specs.Blocks.{Packing, block, last_block}
 
@@ -16,6 +17,10 @@ pub record IsWhole (octets : List ℕ) (place : ℕ) : Type 0 where
   pub begins : place ≤ length octets
   pub room : length octets ≤ place + PACKED_ROOM
   pub ends : drop place octets ≡ last_block (drop (place + HEADER_LENGTH) octets)
+
+-- a capacity for so many more messages behind a length, whatever their lengths and however they fall into blocks
+abbrev pub HasSpare : ℕ → ℕ → ℕ → Type 0
+HasSpare length capacity spare = length + spare * (HEADER_LENGTH + MESSAGE_ROOM) ≤ capacity
 
 -- the block that begins at the place has its category and length, and room for these octets
 pub record HasRoom (octets : List ℕ) (place : ℕ) (message : List ℕ) : Type 0 where

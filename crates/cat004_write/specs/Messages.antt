@@ -1,15 +1,15 @@
 -- The record of an event, item by item (this project's profile after ASTERIX part 4).
-use Rattle.std.specs.Prelude.{ℕ, ◌+◌, ◌-◌, ◌*◌, ◌/◌, ◌%◌, ◌^◌, ◌<◌, ◌≤◌, ◌==◌, nat_lt, List, [], ◌∷◌, ◌++◌, length, map, take, Option, Some, None, if◌then◌else◌}
+use Rattle.std.specs.Prelude.{ℕ, ◌+◌, ◌-◌, ◌*◌, ◌/◌, ◌%◌, ◌^◌, ◌≤◌, ◌==◌, nat_lt, List, [], ◌∷◌, ◌++◌, length, map, take, Option, Some, None, if◌then◌else◌}
 use Rattle.std.specs.List.{list_any, sum_by}
 use Rattle.asterix_fields.specs.Numbers.{octets}
 use Rattle.track_motion.specs.declared.track.TheConstants.{TICKS_PER_DAY}
-use Rattle.cat004_write.specs.declared.event.Net.{Net}
-use Rattle.cat004_write.specs.declared.event.Net.TheVariants.{Stca, Msaw, Apw, Apm}
-use Rattle.cat004_write.specs.declared.event.Status.{Status}
-use Rattle.cat004_write.specs.declared.event.Status.TheVariants.{First, Continuing, Ended}
-use Rattle.cat004_write.specs.declared.event.HitData.{HitData}
-use Rattle.cat004_write.specs.declared.event.Subject.{Subject}
-use Rattle.cat004_write.specs.declared.event.Event.{Event}
+use Rattle.alert_states.specs.declared.event.Net.{Net}
+use Rattle.alert_states.specs.declared.event.Net.TheVariants.{Stca, Msaw, Apw, Apm}
+use Rattle.alert_states.specs.declared.event.Status.{Status}
+use Rattle.alert_states.specs.declared.event.Status.TheVariants.{First, Continuing, Ended}
+use Rattle.alert_states.specs.declared.event.HitData.{HitData}
+use Rattle.alert_states.specs.declared.event.Subject.{Subject}
+use Rattle.alert_states.specs.declared.event.Event.{Event}
 use Rattle.cat004_write.specs.declared.message.Message.{Message}
 use Rattle.cat004_write.specs.declared.message.TheConstants.{MESSAGE_ROOM}
 
@@ -105,10 +105,6 @@ message_length Stca (Some hit) = 39
 message_length Stca None = 23
 message_length net (Some hit) = 25
 message_length net None = 21
-
--- the figures of a hit that are written in three octets fit them
-abbrev pub FitsOctets : HitData → Type 0
-FitsOctets hit = (hit.first < 2 ^ 24) × (hit.closest < 2 ^ 24) × (hit.chs < 2 ^ 24)
 
 -- there is room for so many more octets of a message
 abbrev pub HasPlace : List ℕ → ℕ → Type 0

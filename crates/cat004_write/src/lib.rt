@@ -2,12 +2,11 @@
 #![tactic(auto)]
 
 mod buffer;
-pub mod event;
 pub mod laws;
 pub mod message;
 pub mod packer;
 
-pub use event::{
+pub use alert_states::{
     ABOVE, BELOW, CURRENT_PROXIMITY, Event, HitData, LEFT, Net, RIGHT, Status, Subject, URGENT,
 };
 pub use message::{MESSAGE_ROOM, Message, write_event};

@@ -1,10 +1,11 @@
 //! The bytes of a message.
 ghost use Rattle.std.specs.Prelude.{◌≡◌, ◌≤◌, ◌++◌, ◌%◌, IfSome, pos, ◌≤ℤ◌};
 ghost use Rattle.std.specs.Int.RustNames.{unsigned_abs};
-ghost use Rattle.cat004_write.specs.Messages.{FitsOctets, HasPlace, about as about_octets, flags_of, conflict as conflict_item, conflict_of, field_specification as fspec, message, message_length, message_type as type_number, second_track as second_track_item, special as special_item, status_octet as status_number, written};
+ghost use Rattle.alert_states.specs.Figures.{FitsMessage, FitsOctets};
+ghost use Rattle.cat004_write.specs.Messages.{HasPlace, about as about_octets, flags_of, conflict as conflict_item, conflict_of, field_specification as fspec, message, message_length, message_type as type_number, second_track as second_track_item, special as special_item, status_octet as status_number, written};
 
 use crate::buffer::Buffer;
-use crate::event::{Event, HitData, Net, Status, Subject};
+use alert_states::{Event, HitData, Net, Status, Subject};
 use asterix_fields::{put16, put24};
 use track_motion::TICKS_PER_DAY;
 
@@ -27,7 +28,7 @@ pub struct Message {
 /// source that sends the message.
 pub fn write_event(e: &Event, time: i64, sac: u8, sic: u8) -> Message
     requires time { pos 0 ≤ℤ time }
-    requires figures { IfSome e.now.hit FitsOctets }
+    requires figures { FitsMessage e.now }
     ensures bytes { written result ≡ message e.now (unsigned_abs time) sac sic }
     ensures length { result.len ≡ message_length e.now.subject.net e.now.hit }
     ensures room { result.len ≤ MESSAGE_ROOM }

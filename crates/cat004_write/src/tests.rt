@@ -1,6 +1,6 @@
 //! Messages and blocks, as worked out by hand from the layout.
-ghost use Rattle.std.specs.Prelude.{IfSome, pos, ◌≤ℤ◌};
-ghost use Rattle.cat004_write.specs.Messages.{FitsOctets};
+ghost use Rattle.std.specs.Prelude.{pos, ◌≤ℤ◌};
+ghost use Rattle.alert_states.specs.Figures.{FitsMessage};
 
 use super::*;
 use std::process::Abort;
@@ -82,7 +82,7 @@ const FIRST: Event = Event {
 
 fn check(rt: &impl Abort, e: &Event, time: i64, want: &[u8])
     requires time { pos 0 ≤ℤ time }
-    requires figures { IfSome e.now.hit FitsOctets }
+    requires figures { FitsMessage e.now }
 {
     let m = write_event(e, time, SAC, SIC);
     let octets = &m.bytes[..m.len as usize];
@@ -250,6 +250,33 @@ fn blocks_of_first_messages(rt: HostRuntime) -> Result<(), Fail> {
     assert_eq!(rt; three.len(), 2778);
     assert_eq!(rt; &three[1368..1371], [0x04, 0x05, 0x58].as_slice());
     assert_eq!(rt; &three[2736..2739], [0x04, 0x00, 0x2A].as_slice());
+    Ok(())
+}
+
+/// Memory that was taken ahead is for as many messages. It is asked for again where it was refused, which
+/// leaves the packer as it was.
+#[test]
+fn memory_taken_ahead(rt: HostRuntime) -> Result<(), Fail> {
+    let mut packer = Packer::new(rt.alloc());
+    if packer.reserve(36).is_err() {
+        packer.reserve(36)?;
+    }
+    assert_eq!(rt; blocks_of(&mut packer, 36)?.len(), 1410);
+    assert_eq!(rt; packer.take().len(), 0);
+    Ok(())
+}
+
+/// More memory than there can be.
+#[test]
+fn refused_memory_leaves_the_messages(rt: HostRuntime) -> Result<(), Fail> {
+    let mut packer = Packer::new(rt.alloc());
+    packer.push(&write_event(&FIRST, FIRST_CYCLE, SAC, SIC))?;
+    for messages in [u64::MAX, 1 << 57] {
+        assert!(rt; packer.reserve(messages).is_err());
+    }
+    let blocks = packer.take();
+    assert_eq!(rt; blocks.len(), 42);
+    assert_eq!(rt; &blocks[..4], [0x04, 0x00, 0x2A, 0xDD].as_slice());
     Ok(())
 }
 

@@ -2,14 +2,24 @@
 ghost use Rattle.std.specs.Prelude.{◌≡◌, ◌≤◌, IfSome, is_some};
 ghost use Rattle.std.specs.Int.RustNames.{unsigned_abs};
 ghost use Rattle.track_motion.specs.Tracks.{IsHeight, IsInPlane, IsLevelled};
-ghost use Rattle.cat062_read.specs.Tracks.{IsPlaced, IsQnh, altitude_of, level_of, track_of};
+ghost use Rattle.cat062_read.specs.Tracks.{IsPlaced, IsQnh, altitude_of, is_usable as usable, level_of, track_of};
 
 use crate::record::Raw062;
 pub use track_motion::{TICKS_PER_DAY, Track, TrackKey};
 
+/// A record is usable: it has its source, its number, its time, and a position unless it is the track's last
+/// message.
+pub fn is_usable(raw: &Raw062) -> bool
+    ensures { result ≡ usable raw.now }
+{
+    raw.source.is_some()
+        && raw.number.is_some()
+        && raw.time.is_some()
+        && (raw.xy.is_some() || raw.ended)
+}
+
 /// The track that a record tells of, with the QNH correction of the site in 25 ft. None where the
-/// record isn't usable: it lacks its source, its number, its time, or a position without being the
-/// track's last message.
+/// record isn't usable.
 pub fn track_of(raw: &Raw062, qnh: i32) -> Option<Track>
     requires { IsQnh qnh }
     ensures track { result ≡ track_of raw.now qnh }

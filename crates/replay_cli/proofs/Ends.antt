@@ -6,14 +6,13 @@ use Rattle.std.specs.Io.KnownBytes.{Appends}
 use Rattle.outside_io.specs.Bytes.{AppendsPrefix, AppendsWhole}
 use Rattle.outside_io.specs.Faults.{Rose}
 use Rattle.site_params.specs.declared.fault.SiteFault.{SiteFault}
-use Rattle.site_params.specs.declared.site.Site.{Site}
 use Rattle.replay_cli.specs.Content.{feeds_are_intact}
 use Rattle.replay_cli.specs.Counts.{report_of}
-use Rattle.replay_cli.specs.Ends.{Ran, Ends, Finishes, Completes, Breaks, RefusesSite, IsNotBuilt, IsAsked, StopsBy, status_done, status_of}
+use Rattle.replay_cli.specs.Ends.{Ran, Ends, Finishes, Completes, Breaks, Halts, RefusesSite, IsAsked, StopsBy, status_done, status_of}
 use Rattle.replay_cli.specs.FaultTexts.{site_text, text_of_fault, write_failed_text}
 use Rattle.replay_cli.specs.Found.{Found, OtherWords, Untold, Lacking, Refused, Given, IfGiven, IsLacking}
-use Rattle.replay_cli.specs.Outcomes.{IsDone, IsDue, IsReport, IsRefusal, Judges, JudgesFeeds, Reports, Serves, Sunk}
-use Rattle.replay_cli.specs.Reference.{reference, FeedsAreSupported}
+use Rattle.replay_cli.specs.Outcomes.{IsDone, IsDue, IsReport, IsRefusal, Judges, JudgesFeeds, MayWrite, Reports, Serves, Sunk}
+use Rattle.replay_cli.specs.Reference.{reference}
 use Rattle.replay_cli.specs.ReportText.{text_of}
 use Rattle.replay_cli.specs.Stops.{stop_status}
 use Rattle.replay_cli.specs.declared.texts.FaultText.{FaultText}
@@ -51,7 +50,6 @@ kept_or_missed (Ok work) n report (inr misses) = inr (misses.status, done_status
 stop_statuses : (e : FaultText) → (stop_status e ≡ 2) ⊎ (stop_status e ≡ 3) ⊎ (stop_status e ≡ 4) ⊎ (stop_status e ≡ 5) ⊎ (stop_status e ≡ 6)
 stop_statuses texts.Usage = search rules
 stop_statuses (texts.Site fault) = search rules
-stop_statuses texts.NotBuilt = search rules
 stop_statuses (texts.CannotOpen name) = search rules
 stop_statuses (texts.ReadFailed name) = search rules
 stop_statuses texts.WriteFailed = search rules
@@ -77,24 +75,27 @@ statuses_of (Err stopped) n report finishes = rw finishes.0 (let one = stop_stat
 
 -- ---- what was found judges the status
 
-judge_feeds : (site : Site) (feeds : List (List ℕ)) (b : Bool) (n : ℕ) → FeedsAreSupported site feeds → b ≡ feeds_are_intact feeds → n ≡ status_done b → JudgesFeeds site feeds n
-judge_feeds site feeds true n supported intact is = record { words = λ e. cc; refused = λ e. absurd (cc); intact = λ e. (supported, sym intact); damaged = λ e. absurd (cc); cut_off = λ e. supported }
-judge_feeds site feeds false n supported intact is = record { words = λ e. cc; refused = λ e. absurd (cc); intact = λ e. absurd (cc); damaged = λ e. (supported, sym intact); cut_off = λ e. supported }
+judge_feeds : (feeds : List (List ℕ)) (b : Bool) (n : ℕ) → b ≡ feeds_are_intact feeds → n ≡ status_done b → JudgesFeeds feeds n
+judge_feeds feeds true n intact is = record { words = λ e. cc; accepted = λ e. cc; intact = λ e. sym intact; damaged = λ e. absurd (cc) }
+judge_feeds feeds false n intact is = record { words = λ e. cc; accepted = λ e. cc; intact = λ e. absurd (cc); damaged = λ e. sym intact }
+
+-- at these statuses nothing is said of the feeds
+judge_none : (feeds : List (List ℕ)) (n : ℕ) → n ≢ 2 → n ≢ 3 → n ≢ 0 → n ≢ 7 → JudgesFeeds feeds n
+judge_none feeds n words accepted not_intact not_damaged = record { words = words; accepted = accepted; intact = λ e. absurd (not_intact e); damaged = λ e. absurd (not_damaged e) }
 
 judge_done : (f : Found) (out : Sunk) (work : Work) (n : ℕ) → Completes f out work → n ≡ status_done work.is_intact → Judges f n
 judge_done OtherWords out work n completes is = absurd completes
 judge_done Untold out work n completes is = λ two. elim (done_statuses work.is_intact) [ inl zero ↦ absurd (cc) | inr seven ↦ absurd (cc) ]
 judge_done (Lacking name) out work n completes is = absurd completes
 judge_done (Refused fault) out work n completes is = absurd completes
-judge_done (Given site feeds) out work n completes is = judge_feeds site feeds work.is_intact n completes.0.supported completes.0.intact is
+judge_done (Given site feeds) out work n completes is = judge_feeds feeds work.is_intact n completes.0.intact is
 
 judge_missed : (f : Found) (out : Sunk) (work : Work) → Completes f out work → Judges f 5
 judge_missed OtherWords out work completes = absurd completes
 judge_missed Untold out work completes = λ two. cc
 judge_missed (Lacking name) out work completes = absurd completes
 judge_missed (Refused fault) out work completes = absurd completes
-judge_missed (Given site feeds) out work completes =
-    record { words = λ e. cc; refused = λ e. absurd (cc); intact = λ e. absurd (cc); damaged = λ e. absurd (cc); cut_off = λ e. completes.0.supported }
+judge_missed (Given site feeds) out work completes = judge_none feeds 5 (λ e. cc) (λ e. cc) (λ e. cc) (λ e. cc)
 
 judge_usage : (f : Found) → f ≡ OtherWords → Judges f 2
 judge_usage f is = rw is (inl refl)
@@ -106,42 +107,30 @@ judge_site (Lacking name) fault refuses = absurd refuses
 judge_site (Refused first) fault refuses = inl refl
 judge_site (Given site feeds) fault refuses = absurd refuses
 
-judge_not_built : (f : Found) → IsNotBuilt f → Judges f 3
-judge_not_built OtherWords not_built = absurd not_built
-judge_not_built Untold not_built = λ two. cc
-judge_not_built (Lacking name) not_built = absurd not_built
-judge_not_built (Refused first) not_built = absurd not_built
-judge_not_built (Given site feeds) not_built =
-    record { words = λ e. cc; refused = λ e. not_built; intact = λ e. absurd (cc); damaged = λ e. absurd (cc); cut_off = λ e. absurd (cc) }
-
 judge_unread : (f : Found) → IsAsked f → Judges f 4
 judge_unread OtherWords asked = absurd asked
 judge_unread Untold asked = λ two. cc
 judge_unread (Lacking name) asked = inl refl
 judge_unread (Refused first) asked = inr (inl refl)
-judge_unread (Given site feeds) asked =
-    record { words = λ e. cc; refused = λ e. absurd (cc); intact = λ e. absurd (cc); damaged = λ e. absurd (cc); cut_off = λ e. absurd (cc) }
+judge_unread (Given site feeds) asked = judge_none feeds 4 (λ e. cc) (λ e. cc) (λ e. cc) (λ e. cc)
 
 judge_broken : (f : Found) (out : Sunk) → Breaks f out → Judges f 5
 judge_broken OtherWords out breaks = absurd breaks
 judge_broken Untold out breaks = λ two. cc
 judge_broken (Lacking name) out breaks = absurd breaks
 judge_broken (Refused first) out breaks = absurd breaks
-judge_broken (Given site feeds) out breaks =
-    record { words = λ e. cc; refused = λ e. absurd (cc); intact = λ e. absurd (cc); damaged = λ e. absurd (cc); cut_off = λ e. breaks.0 }
+judge_broken (Given site feeds) out breaks = judge_none feeds 5 (λ e. cc) (λ e. cc) (λ e. cc) (λ e. cc)
 
 judge_memory : (f : Found) → Judges f 6
 judge_memory OtherWords = inr refl
 judge_memory Untold = λ two. cc
 judge_memory (Lacking name) = inr refl
 judge_memory (Refused first) = inr (inr refl)
-judge_memory (Given site feeds) =
-    record { words = λ e. cc; refused = λ e. absurd (cc); intact = λ e. absurd (cc); damaged = λ e. absurd (cc); cut_off = λ e. absurd (cc) }
+judge_memory (Given site feeds) = judge_none feeds 6 (λ e. cc) (λ e. cc) (λ e. cc) (λ e. cc)
 
 judged_by : (r : Ran) (e : FaultText) → StopsBy e r → Judges r.found (stop_status e)
 judged_by r texts.Usage stops = judge_usage r.found stops
 judged_by r (texts.Site fault) stops = judge_site r.found fault stops
-judged_by r texts.NotBuilt stops = judge_not_built r.found stops
 judged_by r (texts.CannotOpen name) stops = judge_unread r.found stops.0
 judged_by r (texts.ReadFailed name) stops = judge_unread r.found stops.0
 judged_by r texts.WriteFailed stops = judge_broken r.found r.out stops.1
@@ -159,45 +148,70 @@ serve_done OtherWords out work n completes = tt
 serve_done Untold out work n completes = tt
 serve_done (Lacking name) out work n completes = tt
 serve_done (Refused fault) out work n completes = tt
-serve_done (Given site feeds) out work n completes = λ supported. record { prefix = whole_is_prefix out.before out.after (reference site feeds) completes.1; done = λ d. completes.1; unbroken = λ e kept. completes.1 }
+serve_done (Given site feeds) out work n completes = record { prefix = whole_is_prefix out.before out.after (reference site feeds) completes.1; done = λ d. completes.1; unbroken = λ e kept. completes.1 }
 
 serve_unused : (f : Found) (out : Sunk) (n : ℕ) → (IsDone n → ⊥) → n ≢ 5 → out.after ≡ out.before → IfGiven f (Serves n out)
 serve_unused OtherWords out n other uncut same = tt
 serve_unused Untold out n other uncut same = tt
 serve_unused (Lacking name) out n other uncut same = tt
 serve_unused (Refused fault) out n other uncut same = tt
-serve_unused (Given site feeds) out n other uncut same = λ supported. record { prefix = nothing_is_prefix out.before out.after (reference site feeds) same; done = λ d. absurd (other d); unbroken = λ e kept. absurd (uncut e) }
+serve_unused (Given site feeds) out n other uncut same = record { prefix = nothing_is_prefix out.before out.after (reference site feeds) same; done = λ d. absurd (other d); unbroken = λ e kept. absurd (uncut e) }
 
 serve_broken : (f : Found) (out : Sunk) → Rose out.faults_before out.faults_after → Breaks f out → IfGiven f (Serves 5 out)
 serve_broken OtherWords out rose breaks = tt
 serve_broken Untold out rose breaks = tt
 serve_broken (Lacking name) out rose breaks = tt
 serve_broken (Refused fault) out rose breaks = tt
-serve_broken (Given site feeds) out rose breaks = λ supported. record { prefix = breaks.1; done = λ d. absurd (elim d [ inl zero ↦ cc | inr seven ↦ cc ]); unbroken = λ e kept. absurd (kept rose) }
+serve_broken (Given site feeds) out rose breaks = record { prefix = breaks; done = λ d. absurd (elim d [ inl zero ↦ cc | inr seven ↦ cc ]); unbroken = λ e kept. absurd (kept rose) }
+
+-- want of memory in the middle of the cycles
+serve_halted : (f : Found) (out : Sunk) → Halts f out → IfGiven f (Serves 6 out)
+serve_halted OtherWords out halts = tt
+serve_halted Untold out halts = tt
+serve_halted (Lacking name) out halts = tt
+serve_halted (Refused fault) out halts = tt
+serve_halted (Given site feeds) out halts = record { prefix = halts; done = λ d. absurd (elim d [ inl zero ↦ cc | inr seven ↦ cc ]); unbroken = λ e kept. absurd (cc) }
 
 -- a run that stopped before the alerts were written left `out` as it was
 abbrev Unused : Ran → ℕ → Type 0
-Unused r k = k ≢ 0 → k ≢ 5 → k ≢ 7 → r.out.after ≡ r.out.before
+Unused r k = (MayWrite r.found k → ⊥) → r.out.after ≡ r.out.before
+
+-- nothing is written at a status that is told before the cycles
+nothing_at : (f : Found) (k : ℕ) → k ≢ 0 → k ≢ 7 → k ≢ 5 → k ≢ 6 → MayWrite f k → ⊥
+nothing_at f k not_intact not_damaged uncut remembered may = elim may [
+  | inl done ↦ elim done [ inl zero ↦ not_intact zero | inr seven ↦ not_damaged seven ]
+  | inr (inl five) ↦ uncut five
+  | inr (inr memory) ↦ remembered memory.0
+]
+
+serve_stopped : (r : Ran) (k : ℕ) → k ≢ 0 → k ≢ 7 → k ≢ 5 → k ≢ 6 → Unused r k → IfGiven r.found (Serves k r.out)
+serve_stopped r k not_intact not_damaged uncut remembered unused =
+    serve_unused r.found r.out k (λ done. elim done [ inl zero ↦ not_intact zero | inr seven ↦ not_damaged seven ]) uncut (unused (nothing_at r.found k not_intact not_damaged uncut remembered))
 
 served_by : (r : Ran) (e : FaultText) → StopsBy e r → Unused r (stop_status e) → IfGiven r.found (Serves (stop_status e) r.out)
-served_by r texts.Usage stops unused = serve_unused r.found r.out 2 (λ done. elim done [ inl zero ↦ cc | inr seven ↦ cc ]) (λ e. cc) (unused (λ e. cc) (λ e. cc) (λ e. cc))
-served_by r (texts.Site fault) stops unused = serve_unused r.found r.out 3 (λ done. elim done [ inl zero ↦ cc | inr seven ↦ cc ]) (λ e. cc) (unused (λ e. cc) (λ e. cc) (λ e. cc))
-served_by r texts.NotBuilt stops unused = serve_unused r.found r.out 3 (λ done. elim done [ inl zero ↦ cc | inr seven ↦ cc ]) (λ e. cc) (unused (λ e. cc) (λ e. cc) (λ e. cc))
-served_by r (texts.CannotOpen name) stops unused = serve_unused r.found r.out 4 (λ done. elim done [ inl zero ↦ cc | inr seven ↦ cc ]) (λ e. cc) (unused (λ e. cc) (λ e. cc) (λ e. cc))
-served_by r (texts.ReadFailed name) stops unused = serve_unused r.found r.out 4 (λ done. elim done [ inl zero ↦ cc | inr seven ↦ cc ]) (λ e. cc) (unused (λ e. cc) (λ e. cc) (λ e. cc))
+served_by r texts.Usage stops unused = serve_stopped r 2 (λ e. cc) (λ e. cc) (λ e. cc) (λ e. cc) unused
+served_by r (texts.Site fault) stops unused = serve_stopped r 3 (λ e. cc) (λ e. cc) (λ e. cc) (λ e. cc) unused
+served_by r (texts.CannotOpen name) stops unused = serve_stopped r 4 (λ e. cc) (λ e. cc) (λ e. cc) (λ e. cc) unused
+served_by r (texts.ReadFailed name) stops unused = serve_stopped r 4 (λ e. cc) (λ e. cc) (λ e. cc) (λ e. cc) unused
 served_by r texts.WriteFailed stops unused = serve_broken r.found r.out stops.0 stops.1
-served_by r texts.NoMemory stops unused = serve_unused r.found r.out 6 (λ done. elim done [ inl zero ↦ cc | inr seven ↦ cc ]) (λ e. cc) (unused (λ e. cc) (λ e. cc) (λ e. cc))
+served_by r texts.NoMemory stops unused = serve_halted r.found r.out stops
 
 pub headline_of : (r : Ran) (e : Ending) (n : ℕ) (report : Sunk) → Ends r e → Finishes e n report → Unused r (status_of e) → IfGiven r.found (Serves n r.out)
 headline_of r (Ok work) n report ends finishes unused = serve_done r.found r.out work n ends
 headline_of r (Err stopped) n report ends finishes unused = rw finishes.0 (served_by r stopped ends unused)
+
+-- where alert bytes may not have been written, they may not by the ending
+pub unwritten_by_ending : (f : Found) (e : Ending) (n : ℕ) (report : Sunk) → Finishes e n report → (MayWrite f n → ⊥) → MayWrite f (status_of e) → ⊥
+unwritten_by_ending f e n report finishes none may = elim (kept_or_missed e n report finishes) [
+  | inl same ↦ none (rw same may)
+  | inr missed ↦ none (inr (inl missed.0))
+]
 
 -- ---- the causes of the statuses 4 and 5
 
 unread_by : (r : Ran) (e : FaultText) → StopsBy e r → stop_status e ≡ 4 → IsLacking r.found ⊎ Rose r.world.before r.world.after
 unread_by r texts.Usage stops is = absurd (cc)
 unread_by r (texts.Site fault) stops is = absurd (cc)
-unread_by r texts.NotBuilt stops is = absurd (cc)
 unread_by r (texts.CannotOpen name) stops is = stops.2
 unread_by r (texts.ReadFailed name) stops is = inr stops.2
 unread_by r texts.WriteFailed stops is = absurd (cc)
@@ -215,7 +229,6 @@ unread_of r (Err stopped) n report ends finishes is = unread_by r stopped ends (
 unwritten_by : (r : Ran) (e : FaultText) → StopsBy e r → stop_status e ≡ 5 → Rose r.out.faults_before r.out.faults_after
 unwritten_by r texts.Usage stops is = absurd (cc)
 unwritten_by r (texts.Site fault) stops is = absurd (cc)
-unwritten_by r texts.NotBuilt stops is = absurd (cc)
 unwritten_by r (texts.CannotOpen name) stops is = absurd (cc)
 unwritten_by r (texts.ReadFailed name) stops is = absurd (cc)
 unwritten_by r texts.WriteFailed stops is = stops.0
@@ -258,17 +271,10 @@ some_report (Given site feeds) out breaks = (text_of (report_of site feeds), ref
 
 refusal_of_site : (f : Found) (fault : SiteFault) → RefusesSite f fault → IsRefusal f (site_text fault)
 refusal_of_site OtherWords fault refuses = absurd refuses
-refusal_of_site Untold fault refuses = inr (fault, refl)
+refusal_of_site Untold fault refuses = (fault, refl)
 refusal_of_site (Lacking name) fault refuses = absurd refuses
 refusal_of_site (Refused first) fault refuses = ap site_text refuses
 refusal_of_site (Given site feeds) fault refuses = absurd refuses
-
-refusal_of_form : (f : Found) → IsNotBuilt f → IsRefusal f (text_of_fault texts.NotBuilt)
-refusal_of_form OtherWords not_built = absurd not_built
-refusal_of_form Untold not_built = inl refl
-refusal_of_form (Lacking name) not_built = absurd not_built
-refusal_of_form (Refused first) not_built = absurd not_built
-refusal_of_form (Given site feeds) not_built = refl
 
 not_done_at : (k : ℕ) → k ≢ 0 → k ≢ 7 → IsDone k → ⊥
 not_done_at k not_intact not_damaged done = elim done [ inl zero ↦ not_intact zero | inr seven ↦ not_damaged seven ]
@@ -276,7 +282,6 @@ not_done_at k not_intact not_damaged done = elim done [ inl zero ↦ not_intact 
 due_by : (r : Ran) (e : FaultText) → StopsBy e r → IsDue r.found r.names (stop_status e) (text_of_fault e)
 due_by r texts.Usage stops = record { done = λ d. absurd (not_done_at 2 (λ e. cc) (λ e. cc) d); usage = λ e. refl; refused = λ e. absurd (cc); unread = λ e. absurd (cc); unwritten = λ e. absurd (cc); memory = λ e. absurd (cc) }
 due_by r (texts.Site fault) stops = record { done = λ d. absurd (not_done_at 3 (λ e. cc) (λ e. cc) d); usage = λ e. absurd (cc); refused = λ e. refusal_of_site r.found fault stops; unread = λ e. absurd (cc); unwritten = λ e. absurd (cc); memory = λ e. absurd (cc) }
-due_by r texts.NotBuilt stops = record { done = λ d. absurd (not_done_at 3 (λ e. cc) (λ e. cc) d); usage = λ e. absurd (cc); refused = λ e. refusal_of_form r.found stops; unread = λ e. absurd (cc); unwritten = λ e. absurd (cc); memory = λ e. absurd (cc) }
 due_by r (texts.CannotOpen name) stops = record { done = λ d. absurd (not_done_at 4 (λ e. cc) (λ e. cc) d); usage = λ e. absurd (cc); refused = λ e. absurd (cc); unread = λ e. (name, stops.1, inl refl); unwritten = λ e. absurd (cc); memory = λ e. absurd (cc) }
 due_by r (texts.ReadFailed name) stops = record { done = λ d. absurd (not_done_at 4 (λ e. cc) (λ e. cc) d); usage = λ e. absurd (cc); refused = λ e. absurd (cc); unread = λ e. (name, stops.1, inr refl); unwritten = λ e. absurd (cc); memory = λ e. absurd (cc) }
 due_by r texts.WriteFailed stops = record { done = λ d. absurd (not_done_at 5 (λ e. cc) (λ e. cc) d); usage = λ e. absurd (cc); refused = λ e. absurd (cc); unread = λ e. absurd (cc); unwritten = λ e. refl; memory = λ e. absurd (cc) }
@@ -285,7 +290,6 @@ due_by r texts.NoMemory stops = record { done = λ d. absurd (not_done_at 6 (λ 
 late_by : (r : Ran) (e : FaultText) (report : Sunk) → StopsBy e r → stop_status e ≡ 5 → (text : List ℕ) × IsReport r.found text × AppendsPrefix report.before report.before text
 late_by r texts.Usage report stops is = absurd (cc)
 late_by r (texts.Site fault) report stops is = absurd (cc)
-late_by r texts.NotBuilt report stops is = absurd (cc)
 late_by r (texts.CannotOpen name) report stops is = absurd (cc)
 late_by r (texts.ReadFailed name) report stops is = absurd (cc)
 late_by r texts.WriteFailed report stops is = (let some = some_report r.found r.out stops.1 in (some.0, some.1, nothing_is_prefix report.before report.before some.0 refl))

@@ -3,12 +3,14 @@ pub mod Ends
 pub mod Feeding
 pub mod Lines
 pub mod Lists
-pub mod Messages
+pub mod Making
 pub mod PlainWords
 pub mod Read
-pub mod Signed
 pub mod Sites
+pub mod Stamping
+pub mod TableLaws
 pub mod Told
 pub mod Under
 pub mod Unplanned
 pub mod Usable
+pub mod Windows

@@ -1,27 +1,12 @@
 -- One more element of a list that a loop goes over.
-use Rattle.std.proofs.Common.{◌≡◌, ℕ, ◌+◌, ◌<◌, List, [], ◌∷◌, ◌++◌, length, take, drop, get_or, Option, Some, None, ap, sym, ◌∙◌, arith, suc}
-use Rattle.std.specs.List.{filter_map, AllByRecursion, enumerate_from}
-use Rattle.std.proofs.lemmas.List.{take_more, take-append-drop, drop_more, append-nil, length-take}
+use Rattle.std.proofs.Common.{◌≡◌, ℕ, ◌+◌, ◌<◌, List, [], ◌∷◌, ◌++◌, length, take, get_or, Option, Some, ap, ◌∙◌, arith, suc}
+use Rattle.std.specs.List.{filter_map, enumerate_from}
+use Rattle.std.proofs.lemmas.List.{take_more, length-take}
 use Rattle.std.proofs.lemmas.List.Elements.{filter_map-append}
 
 pub found_more : {X Y : Type 0} (f : X → Option Y) (xs : List X) (i : ℕ) (x : X) (y : Y) → i < length xs → f (get_or xs i x) ≡ Some y → filter_map f (take (i + 1) xs) ≡ filter_map f (take i xs) ++ y ∷ []
 found_more f xs i x y before found =
     ap (filter_map f) (take_more xs i x before) ∙ filter_map-append f (take i xs) (get_or xs i x ∷ []) ∙ rw found
-
-pub none_more : {X Y : Type 0} (f : X → Option Y) (xs : List X) (i : ℕ) (x : X) → i < length xs → f (get_or xs i x) ≡ None → filter_map f (take (i + 1) xs) ≡ filter_map f (take i xs)
-none_more f xs i x before none =
-    ap (filter_map f) (take_more xs i x before) ∙ filter_map-append f (take i xs) (get_or xs i x ∷ []) ∙ rw none (append-nil (filter_map f (take i xs)))
-
--- what is found of a list with an element in it that something is found of
-pub found_at : {X Y : Type 0} (f : X → Option Y) (xs : List X) (i : ℕ) (x : X) (y : Y) → i < length xs → f (get_or xs i x) ≡ Some y → filter_map f xs ≡ filter_map f (take i xs) ++ y ∷ filter_map f (drop (i + 1) xs)
-found_at f xs i x y before found =
-    ap (filter_map f) (sym (take-append-drop i xs) ∙ ap (λ rest. take i xs ++ rest) (drop_more xs i x before))
-    ∙ filter_map-append f (take i xs) (get_or xs i x ∷ drop (i + 1) xs)
-    ∙ rw found
-
-pub each_push : {X : Type 0} (P : X → Type 0) (xs : List X) (x : X) → AllByRecursion P xs → P x → AllByRecursion P (xs ++ x ∷ [])
-each_push P [] x each one = (one, tt)
-each_push P (y ∷ ys) x each one = (each.0, each_push P ys x each.1 one)
 
 same_number : (n : ℕ) → n ≡ n + 0
 same_number n = omega arith

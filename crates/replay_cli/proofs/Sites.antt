@@ -1,14 +1,11 @@
 -- What the stages of a cycle rely on of an accepted site.
-use Rattle.std.proofs.Common.{◌≡◌, pos, ◌≤ℤ◌, [], get_or, None, Some, arith, w32, w64, to_z, of_z}
-use Rattle.std.specs.List.{slice_get}
-use Rattle.std.proofs.lemmas.Option.{get_or_from_slice_get}
+use Rattle.std.proofs.Common.{◌≡◌, ◌^◌, ◌≤◌, ℤ, pos, ◌≤ℤ◌, [], None, arith, w32, w64, to_z, of_z}
+use Rattle.std.specs.Int.RustNames.{unsigned_abs}
 use Rattle.std.proofs.lemmas.Int.{fits_signed_from_abs, ints, to_z-of_z}
-use Rattle.site_params.specs.declared.site.Set.{Set}
 use Rattle.site_params.specs.declared.site.Site.{Site}
-use Rattle.site_params.specs.Ranges.{IsSite, IsSet}
+use Rattle.site_params.specs.Ranges.{IsSite}
 use Rattle.track_table.specs.Held.{Held}
 use Rattle.replay_cli.specs.Rows.{IsTimed}
-use Rattle.replay_cli.proofs.Signed.{as_is}
 
 pub timed : (site : Site) → IsSite site → IsTimed site
 timed site is =
@@ -32,6 +29,9 @@ period_low site is =
     omega (arith, ints)
 
 -- the times in 64 bits
+as_is : (z : ℤ) → unsigned_abs z ≤ 2 ^ 62 → to_z w64 (of_z w64 z) ≡ z
+as_is z small = to_z-of_z w64 z (fits_signed_from_abs w64 z (omega arith))
+
 pub start_is : (site : Site) → IsTimed site → to_z w64 (of_z w64 site.start) ≡ site.start
 start_is site is =
     let low = is.start_low in
@@ -61,10 +61,3 @@ pub correction_is : (site : Site) → IsTimed site → to_z w32 (of_z w32 site.q
 correction_is site of =
     let small = of.qnh in
     to_z-of_z w32 site.qnh (fits_signed_from_abs w32 site.qnh (omega arith))
-
--- the first of the site's sets
-pub first_set : (site : Site) (set : Set) → IsSite site → slice_get site.sets 0 ≡ Some set → IsSet set
-first_set site set is first =
-    let count = is.sets.count.low in
-    let here : get_or site.sets 0 set ≡ set = get_or_from_slice_get site.sets 0 set set first in
-    rw here at (is.sets.each 0 set (omega (arith, ints)))

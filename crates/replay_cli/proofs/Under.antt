@@ -1,5 +1,5 @@
 -- What a run finds, from what was read under the names.
-use Rattle.std.proofs.Common.{◌≡◌, ◌≢◌, ◌⊎◌, ◌∙◌, ◌+◌, ◌<◌, ◌≤◌, inl, inr, refl, sym, ap, zero, suc, ℕ, Bool, true, false, List, [], ◌∷◌, get_or, length, map, take, is_none, Option, None, Some, Result, Ok, Err, IfErr, IsErrAnd, IsErrOf, Contains, length-take-le, arith, if◌then◌else◌}
+use Rattle.std.proofs.Common.{◌≡◌, ◌≢◌, ◌⊎◌, ◌∙◌, ◌+◌, ◌<◌, ◌≤◌, inl, inr, refl, sym, ap, zero, suc, ℕ, Bool, true, false, List, [], ◌∷◌, get_or, length, map, take, is_none, Option, None, Some, Result, Ok, Err, IfErr, IfOk, OnErr, OnOk, IsErrAnd, IsErrOf, Contains, length-take-le, arith, if◌then◌else◌}
 use Rattle.std.specs.List.{filter_map}
 use Rattle.std.proofs.lemmas.Bool.{cases_lt, lt-ltb}
 use Rattle.std.proofs.lemmas.List.{get_or-map, get_or_default, length-map, take_all}
@@ -17,13 +17,14 @@ use Rattle.site_params.specs.Kinds.{Reading}
 use Rattle.site_params.specs.Site.{site_of_text}
 use Rattle.replay_cli.specs.Content.{Content, content}
 use Rattle.replay_cli.specs.Counts.{report_in}
-use Rattle.replay_cli.specs.Ends.{Breaks, Change, Completes, Ends, IsAsked, IsNotBuilt, RefusesSite, StopsBy, change, ran}
+use Rattle.replay_cli.specs.Ends.{Breaks, Change, Completes, Ends, Halts, IsAsked, RefusesSite, StopsBy, change, ran}
 use Rattle.replay_cli.specs.Feeds.{ReadsEach, TextOf}
-use Rattle.replay_cli.specs.Found.{Found, Untold, Given, found_unless, found_names, found_site, request, IsLacking}
-use Rattle.replay_cli.specs.Outcomes.{Sunk}
+use Rattle.replay_cli.specs.Found.{Found, OtherWords, Untold, Lacking, Refused, Given, IfGiven, found, found_unless, found_names, found_site, request, IsLacking}
+use Rattle.replay_cli.specs.Outcomes.{CountsPairs, HasBegun, Sunk}
+use Rattle.replay_cli.specs.ReportText.{text_of}
 use Rattle.replay_cli.specs.Run.{Files, first_lacking, read_of}
 use Rattle.replay_cli.specs.Stops.{IsReading, StopsAmong, StopsNamed, StopsSite, fault_of, site_fault}
-use Rattle.replay_cli.specs.Reference.{AreSupported}
+use Rattle.replay_cli.specs.Reference.{alerts, examined, reference}
 use Rattle.replay_cli.specs.Works.{IsWork}
 use Rattle.replay_cli.specs.declared.input.Unread.{Unread}
 use Rattle.replay_cli.specs.declared.input.Unread.TheVariants as unreads
@@ -31,6 +32,7 @@ use Rattle.replay_cli.specs.declared.request.Request.{Request}
 use Rattle.replay_cli.specs.declared.work.Work.{Work}
 use Rattle.replay_cli.specs.declared.texts.FaultText.{FaultText}
 use Rattle.replay_cli.specs.declared.texts.FaultText.TheVariants as texts
+use Rattle.replay_cli.proofs.Ends.{nothing_is_prefix}
 
 -- ---- a site file is read to its room and one octet more
 
@@ -113,72 +115,97 @@ first_name r name same = (0, omega arith, sym same)
 later_name : (r : Request) (name : List ℕ) → Contains r.feeds name → Contains (r.site ∷ r.feeds) name
 later_name r name one = (suc one.0, omega (arith, one.1), one.2)
 
+-- where nothing was written, that is a prefix
+halts_unused : (f : Found) (out : Sunk) → out.after ≡ out.before → Halts f out
+halts_unused OtherWords out same = tt
+halts_unused Untold out same = tt
+halts_unused (Lacking name) out same = tt
+halts_unused (Refused fault) out same = tt
+halts_unused (Given site feeds) out same = nothing_is_prefix out.before out.after (reference site feeds) same
+
 -- the site wasn't read
 pub stops_at_site : (files : Option Files) (words : List (List ℕ)) (r : Request) (e : FaultText) (before after : ℕ) (out : Sunk) →
-    request words ≡ Some r → StopsSite files before after r.site e → StopsBy e (ran files words (change before after) out)
-stops_at_site files words r texts.Usage before after out asked stops = absurd stops
-stops_at_site files words r (texts.Site fault) before after out asked stops = rw asked (refused_site files r fault stops)
-stops_at_site files words r texts.NotBuilt before after out asked stops = absurd stops
-stops_at_site files words r (texts.CannotOpen name) before after out asked stops =
+    out.after ≡ out.before → request words ≡ Some r → StopsSite files before after r.site e → StopsBy e (ran files words (change before after) out)
+stops_at_site files words r texts.Usage before after out same asked stops = absurd stops
+stops_at_site files words r (texts.Site fault) before after out same asked stops = rw asked (refused_site files r fault stops)
+stops_at_site files words r (texts.CannotOpen name) before after out same asked stops =
     rw asked (asked_names files r, first_name r name stops.0, elim stops.1 [ inl lacks ↦ inl (lacks_site files r lacks) | inr rose ↦ inr rose ])
-stops_at_site files words r (texts.ReadFailed name) before after out asked stops =
+stops_at_site files words r (texts.ReadFailed name) before after out same asked stops =
     rw asked (asked_names files r, first_name r name stops.0, stops.1)
-stops_at_site files words r texts.WriteFailed before after out asked stops = absurd stops
-stops_at_site files words r texts.NoMemory before after out asked stops = tt
+stops_at_site files words r texts.WriteFailed before after out same asked stops = absurd stops
+stops_at_site files words r texts.NoMemory before after out same asked stops = halts_unused _ out same
 
 -- one of the feeds wasn't read
 among : (files : Option Files) (words : List (List ℕ)) (r : Request) (site : Site) (name : List ℕ) (e : FaultText) (before after : ℕ) (out : Sunk) →
-    request words ≡ Some r → IsReading files r.site (Ok site) → Contains r.feeds name → StopsNamed files before after name e → StopsBy e (ran files words (change before after) out)
-among files words r site name texts.Usage before after out asked reading one stops = absurd stops
-among files words r site name (texts.Site fault) before after out asked reading one stops = absurd stops
-among files words r site name texts.NotBuilt before after out asked reading one stops = absurd stops
-among files words r site name (texts.CannotOpen other) before after out asked reading one stops =
+    out.after ≡ out.before → request words ≡ Some r → IsReading files r.site (Ok site) → Contains r.feeds name → StopsNamed files before after name e → StopsBy e (ran files words (change before after) out)
+among files words r site name texts.Usage before after out same asked reading one stops = absurd stops
+among files words r site name (texts.Site fault) before after out same asked reading one stops = absurd stops
+among files words r site name (texts.CannotOpen other) before after out same asked reading one stops =
     rw (asked, stops.0) (asked_names files r, later_name r name one, elim stops.1 [ inl lacks ↦ inl (lacks_feed files r site name reading one lacks) | inr rose ↦ inr rose ])
-among files words r site name (texts.ReadFailed other) before after out asked reading one stops =
+among files words r site name (texts.ReadFailed other) before after out same asked reading one stops =
     rw (asked, stops.0) (asked_names files r, later_name r name one, stops.1)
-among files words r site name texts.WriteFailed before after out asked reading one stops = absurd stops
-among files words r site name texts.NoMemory before after out asked reading one stops = tt
+among files words r site name texts.WriteFailed before after out same asked reading one stops = absurd stops
+among files words r site name texts.NoMemory before after out same asked reading one stops = halts_unused _ out same
 
 pub stops_at_feeds : (files : Option Files) (words : List (List ℕ)) (r : Request) (site : Site) (e : FaultText) (before after : ℕ) (out : Sunk) →
-    request words ≡ Some r → IsReading files r.site (Ok site) → StopsAmong files before after r.feeds e → StopsBy e (ran files words (change before after) out)
-stops_at_feeds files words r site e before after out asked reading stops = among files words r site stops.0 e before after out asked reading stops.1 stops.2
+    out.after ≡ out.before → request words ≡ Some r → IsReading files r.site (Ok site) → StopsAmong files before after r.feeds e → StopsBy e (ran files words (change before after) out)
+stops_at_feeds files words r site e before after out same asked reading stops = among files words r site stops.0 e before after out same asked reading stops.1 stops.2
 
 -- the words ask for nothing
-pub stops_at_words : (files : Option Files) (words : List (List ℕ)) (e : FaultText) (world : Change) (out : Sunk) → (e ≡ texts.NoMemory) ⊎ ((e ≡ texts.Usage) × (request words ≡ None)) → StopsBy e (ran files words world out)
-stops_at_words files words e world out (inl memory) = rw memory tt
-stops_at_words files words e world out (inr usage) = rw (usage.0, usage.1) refl
-
--- the feeds aren't supported
-pub stops_at_form : (files : Option Files) (words : List (List ℕ)) (r : Request) (site : Site) (inputs : List Content) (e : FaultText) (world : Change) (out : Sunk) →
-    request words ≡ Some r → IsReading files r.site (Ok site) → ReadsEach files r.feeds inputs →
-    (e ≡ texts.NoMemory) ⊎ ((e ≡ texts.NotBuilt) × (AreSupported site inputs → ⊥)) → StopsBy e (ran files words world out)
-stops_at_form files words r site inputs e world out asked reading reads (inl memory) = rw memory tt
-stops_at_form files words r site inputs e world out asked reading reads (inr not_built) =
-    rw (not_built.0, asked) (under_site files r site inputs IsNotBuilt reading reads tt (λ feeds is. rw is at not_built.1))
+pub stops_at_words : (files : Option Files) (words : List (List ℕ)) (e : FaultText) (world : Change) (out : Sunk) → out.after ≡ out.before → (e ≡ texts.NoMemory) ⊎ ((e ≡ texts.Usage) × (request words ≡ None)) → StopsBy e (ran files words world out)
+stops_at_words files words e world out same (inl memory) = rw memory (halts_unused (found files words) out same)
+stops_at_words files words e world out same (inr usage) = rw (usage.0, usage.1) refl
 
 -- ---- what was written of feeds
 
 completed : (files : Option Files) (r : Request) (site : Site) (inputs : List Content) (work : Work) (out : Sunk) →
-    IsReading files r.site (Ok site) → ReadsEach files r.feeds inputs → IsWork site inputs work → Appends out.before out.after work.alerts.items → Completes (found_names files r) out work
+    IsReading files r.site (Ok site) → ReadsEach files r.feeds inputs → IsWork site inputs work → Appends out.before out.after (alerts site inputs) → Completes (found_names files r) out work
 completed files r site inputs work out reading reads is all =
     under_site files r site inputs (λ f. Completes f out work) reading reads (report_in site inputs, is.report)
-    (λ feeds same. (rw same at is, rw (is.alerts, same) at all))
+    (λ feeds same. (rw same at is, rw same at all))
 
-broken : (files : Option Files) (r : Request) (site : Site) (inputs : List Content) (work : Work) (out : Sunk) →
-    IsReading files r.site (Ok site) → ReadsEach files r.feeds inputs → IsWork site inputs work → AppendsPrefix out.before out.after work.alerts.items → Breaks (found_names files r) out
-broken files r site inputs work out reading reads is front =
-    under_site files r site inputs (λ f. Breaks f out) reading reads (work.report.items, (report_in site inputs, is.report))
-    (λ feeds same. (rw same at is.supported, rw (is.alerts, same) at front))
+broken : (files : Option Files) (r : Request) (site : Site) (inputs : List Content) (out : Sunk) →
+    IsReading files r.site (Ok site) → ReadsEach files r.feeds inputs → AppendsPrefix out.before out.after (alerts site inputs) → Breaks (found_names files r) out
+broken files r site inputs out reading reads front =
+    under_site files r site inputs (λ f. Breaks f out) reading reads (text_of (report_in site inputs), (report_in site inputs, refl))
+    (λ feeds same. rw same at front)
 
-pub completes : (files : Option Files) (words : List (List ℕ)) (r : Request) (site : Site) (inputs : List Content) (work : Work) (world : Change) (out : Sunk) →
-    request words ≡ Some r → IsReading files r.site (Ok site) → ReadsEach files r.feeds inputs → IsWork site inputs work → Appends out.before out.after work.alerts.items →
+halted : (files : Option Files) (r : Request) (site : Site) (inputs : List Content) (out : Sunk) →
+    IsReading files r.site (Ok site) → ReadsEach files r.feeds inputs → AppendsPrefix out.before out.after (alerts site inputs) → Halts (found_names files r) out
+halted files r site inputs out reading reads front = under_site files r site inputs (λ f. Halts f out) reading reads tt (λ feeds same. rw same at front)
+
+-- the work was done
+completes : (files : Option Files) (words : List (List ℕ)) (r : Request) (site : Site) (inputs : List Content) (work : Work) (world : Change) (out : Sunk) →
+    request words ≡ Some r → IsReading files r.site (Ok site) → ReadsEach files r.feeds inputs → IsWork site inputs work → Appends out.before out.after (alerts site inputs) →
     Ends (ran files words world out) (Ok work)
 completes files words r site inputs work world out asked reading reads is all = rw asked (completed files r site inputs work out reading reads is all)
 
-pub breaks : (files : Option Files) (words : List (List ℕ)) (r : Request) (site : Site) (inputs : List Content) (work : Work) (world : Change) (out : Sunk) →
-    request words ≡ Some r → IsReading files r.site (Ok site) → ReadsEach files r.feeds inputs → IsWork site inputs work →
-    Rose out.faults_before out.faults_after → AppendsPrefix out.before out.after work.alerts.items → Ends (ran files words world out) (Err texts.WriteFailed)
-breaks files words r site inputs work world out asked reading reads is rose front = rw asked (rose, broken files r site inputs work out reading reads is front)
+-- the run stopped in the middle of the work
+stops_at_work : (files : Option Files) (words : List (List ℕ)) (r : Request) (site : Site) (inputs : List Content) (e : FaultText) (world : Change) (out : Sunk) →
+    request words ≡ Some r → IsReading files r.site (Ok site) → ReadsEach files r.feeds inputs → (e ≡ texts.NoMemory) ⊎ ((e ≡ texts.WriteFailed) × Rose out.faults_before out.faults_after) →
+    AppendsPrefix out.before out.after (alerts site inputs) → StopsBy e (ran files words world out)
+stops_at_work files words r site inputs e world out asked reading reads (inl memory) front = rw (memory, asked) (halted files r site inputs out reading reads front)
+stops_at_work files words r site inputs e world out asked reading reads (inr failed) front = rw (failed.0, asked) (failed.1, broken files r site inputs out reading reads front)
+
+-- so the work ends
+pub ends_at_work : (files : Option Files) (words : List (List ℕ)) (r : Request) (site : Site) (inputs : List Content) (result : Result Work FaultText) (world : Change) (out : Sunk) →
+    request words ≡ Some r → IsReading files r.site (Ok site) → ReadsEach files r.feeds inputs → IfOk result (IsWork site inputs) → OnOk result (Appends out.before out.after (alerts site inputs)) →
+    OnErr result (AppendsPrefix out.before out.after (alerts site inputs)) → IfErr result (λ e. (e ≡ texts.NoMemory) ⊎ (e ≡ texts.WriteFailed)) →
+    (IsErrOf result texts.WriteFailed → Rose out.faults_before out.faults_after) → Ends (ran files words world out) result
+ends_at_work files words r site inputs (Ok work) world out asked reading reads is all front fault rose = completes files words r site inputs work world out asked reading reads is all
+ends_at_work files words r site inputs (Err e) world out asked reading reads is all front fault rose =
+    stops_at_work files words r site inputs e world out asked reading reads (elim fault [ inl memory ↦ inl memory | inr failed ↦ inr (failed, rose (ap Err failed)) ]) front
+
+-- as many steps were taken as pairs are examined
+pub counts_pairs : (files : Option Files) (words : List (List ℕ)) (r : Request) (site : Site) (inputs : List Content) (before after : ℕ) →
+    request words ≡ Some r → IsReading files r.site (Ok site) → ReadsEach files r.feeds inputs → after ≡ before + examined site inputs → IfGiven (found files words) (CountsPairs before after)
+counts_pairs files words r site inputs before after asked reading reads is =
+    rw asked (under_site files r site inputs (λ f. IfGiven f (CountsPairs before after)) reading reads tt (λ feeds same. rw same at is))
+
+-- once the feeds were read cycles are made
+pub has_begun : (files : Option Files) (words : List (List ℕ)) (r : Request) (site : Site) (inputs : List Content) →
+    request words ≡ Some r → IsReading files r.site (Ok site) → ReadsEach files r.feeds inputs → HasBegun (found files words)
+has_begun files words r site inputs asked reading reads = rw asked (under_site files r site inputs HasBegun reading reads tt (λ feeds same. tt))
 
 -- ---- a site that is refused
 
@@ -213,7 +240,6 @@ rose_before first before after le rose = omega arith
 pub stops_later : (files : Option Files) (first before after : ℕ) (name : List ℕ) (e : FaultText) → first ≤ before → StopsNamed files before after name e → StopsNamed files first after name e
 stops_later files first before after name texts.Usage le stops = stops
 stops_later files first before after name (texts.Site fault) le stops = stops
-stops_later files first before after name texts.NotBuilt le stops = stops
 stops_later files first before after name (texts.CannotOpen other) le stops = (stops.0, elim stops.1 [ inl lacks ↦ inl lacks | inr rose ↦ inr (rose_before first before after le rose) ])
 stops_later files first before after name (texts.ReadFailed other) le stops = (stops.0, rose_before first before after le stops.1)
 stops_later files first before after name texts.WriteFailed le stops = stops

@@ -1,38 +1,42 @@
 -- The report of a run's feeds (this project's profile).
-use Rattle.std.specs.Prelude.{ℕ, nat_lt, List, length, map, take, if◌then◌else◌}
-use Rattle.std.specs.List.{list_any}
+use Rattle.std.specs.Prelude.{ℕ, List, count_by, length, map, take}
+use Rattle.cat062_read.specs.Tracks.{is_usable}
+use Rattle.cycle_engine.specs.Cycles.{count_firsts, count_messages}
 use Rattle.site_params.specs.declared.site.Site.{Site}
 use Rattle.replay_cli.specs.Content.{Content, content}
-use Rattle.replay_cli.specs.Reference.{events_in, tracks}
+use Rattle.replay_cli.specs.Feeds.{told_count}
+use Rattle.replay_cli.specs.Reference.{cycles, tables}
+use Rattle.replay_cli.specs.declared.cycles.Made.{Made}
 use Rattle.replay_cli.specs.declared.report.counts.FeedCount.{FeedCount}
 use Rattle.replay_cli.specs.declared.report.counts.Report.{Report}
 use Rattle.replay_cli.specs.declared.report.counts.TheConstants.{MOST_REFUSALS}
 
--- what is counted of a feed, where so many of its records are usable
-abbrev pub feed_count : Content → ℕ → FeedCount
-feed_count found tracks = record {
+-- what is counted of a feed
+abbrev pub feed_count : Content → FeedCount
+feed_count found = record {
   blocks = found.blocks;
   passed = found.passed;
   records = length found.records;
-  tracks = tracks;
+  tracks = count_by is_usable found.records;
   refused = take MOST_REFUSALS found.refused;
   refusals = length found.refused;
   end = found.end;
 }
 
-abbrev pub count_in : Site → Content → FeedCount
-count_in site found = feed_count found (length (tracks site found))
+-- how many cycles there are, how many alerts begin in them, and how many messages they have
+abbrev pub made_of : Site → List Content → Made
+made_of site feeds = record {
+  cycles = cycles site feeds;
+  firsts = told_count (count_firsts site (tables site feeds));
+  messages = told_count (count_messages site (tables site feeds));
+}
 
--- cycle 0 alone is made, and none without a usable record
-abbrev pub cycles_of : List FeedCount → ℕ
-cycles_of feeds = if list_any (λ feed. nat_lt 0 feed.tracks) feeds then 1 else 0
-
--- the report of feeds in which so many alerts begin: each has one message so far
-abbrev pub report_by : List FeedCount → ℕ → Report
-report_by feeds firsts = record { cycles = cycles_of feeds; feeds = feeds; firsts = firsts; messages = firsts }
+-- the report of feeds whose cycles come to this
+abbrev pub report_by : List FeedCount → Made → Report
+report_by feeds made = record { cycles = made.cycles; feeds = feeds; firsts = made.firsts; messages = made.messages }
 
 abbrev pub report_in : Site → List Content → Report
-report_in site feeds = report_by (map (count_in site) feeds) (length (events_in site feeds))
+report_in site feeds = report_by (map feed_count feeds) (made_of site feeds)
 
 abbrev pub report_of : Site → List (List ℕ) → Report
 report_of site feeds = report_in site (map content feeds)

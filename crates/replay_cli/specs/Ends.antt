@@ -8,12 +8,12 @@ use Rattle.replay_cli.specs.Content.{content}
 use Rattle.replay_cli.specs.FaultTexts.{text_of_fault, write_failed_text}
 use Rattle.replay_cli.specs.Found.{Found, OtherWords, Untold, Lacking, Refused, Given, found, names_of, request, IsLacking}
 use Rattle.replay_cli.specs.Outcomes.{IsReport, Sunk, Takes}
-use Rattle.replay_cli.specs.Reference.{reference, FeedsAreSupported}
+use Rattle.replay_cli.specs.Reference.{reference}
 use Rattle.replay_cli.specs.Run.{Files}
 use Rattle.replay_cli.specs.Stops.{stop_status}
 use Rattle.replay_cli.specs.Works.{IsWork}
 use Rattle.replay_cli.specs.declared.texts.FaultText.{FaultText}
-use Rattle.replay_cli.specs.declared.texts.FaultText.TheVariants.{Usage, NotBuilt, CannotOpen, ReadFailed, WriteFailed, NoMemory}
+use Rattle.replay_cli.specs.declared.texts.FaultText.TheVariants.{Usage, CannotOpen, ReadFailed, WriteFailed, NoMemory}
 use Rattle.replay_cli.specs.declared.texts.FaultText.TheVariants as texts
 use Rattle.replay_cli.specs.declared.work.Work.{Work}
 
@@ -57,7 +57,7 @@ Breaks OtherWords out = ⊥
 Breaks Untold out = (report : List ℕ) × IsReport Untold report
 Breaks (Lacking name) out = ⊥
 Breaks (Refused fault) out = ⊥
-Breaks (Given site feeds) out = FeedsAreSupported site feeds × AppendsPrefix out.before out.after (reference site feeds)
+Breaks (Given site feeds) out = AppendsPrefix out.before out.after (reference site feeds)
 
 -- the site file is refused for this fault
 abbrev pub RefusesSite : Found → SiteFault → Type 0
@@ -67,13 +67,13 @@ RefusesSite (Lacking name) fault = ⊥
 RefusesSite (Refused first) fault = fault ≡ first
 RefusesSite (Given site feeds) fault = ⊥
 
--- what the words ask for isn't built
-abbrev pub IsNotBuilt : Found → Type 0
-IsNotBuilt OtherWords = ⊥
-IsNotBuilt Untold = ⊤
-IsNotBuilt (Lacking name) = ⊥
-IsNotBuilt (Refused fault) = ⊥
-IsNotBuilt (Given site feeds) = FeedsAreSupported site feeds → ⊥
+-- want of memory: what was written by then is a prefix of this
+abbrev pub Halts : Found → Sunk → Type 0
+Halts OtherWords out = ⊤
+Halts Untold out = ⊤
+Halts (Lacking name) out = ⊤
+Halts (Refused fault) out = ⊤
+Halts (Given site feeds) out = AppendsPrefix out.before out.after (reference site feeds)
 
 -- the words ask for something that is done here
 abbrev pub IsAsked : Found → Type 0
@@ -87,11 +87,10 @@ IsAsked (Given site feeds) = ⊤
 abbrev pub StopsBy : FaultText → Ran → Type 0
 StopsBy Usage r = r.found ≡ OtherWords
 StopsBy (texts.Site fault) r = RefusesSite r.found fault
-StopsBy NotBuilt r = IsNotBuilt r.found
 StopsBy (CannotOpen name) r = IsAsked r.found × Contains r.names name × (IsLacking r.found ⊎ Rose r.world.before r.world.after)
 StopsBy (ReadFailed name) r = IsAsked r.found × Contains r.names name × Rose r.world.before r.world.after
 StopsBy WriteFailed r = Rose r.out.faults_before r.out.faults_after × Breaks r.found r.out
-StopsBy NoMemory r = ⊤
+StopsBy NoMemory r = Halts r.found r.out
 
 -- so a run ends
 abbrev pub Ends : Ran → Result Work FaultText → Type 0

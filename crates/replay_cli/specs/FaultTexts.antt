@@ -12,9 +12,6 @@ use Rattle.replay_cli.specs.declared.texts.FaultText.TheVariants as told
 abbrev pub usage_text : List ℕ
 usage_text = codes "usage: safetynets replay --site FILE FEED...\n       safetynets run --site FILE --workers N FEED...\n"
 
-abbrev pub not_built_text : List ℕ
-not_built_text = codes "not built\n"
-
 abbrev pub cannot_open : List ℕ → List ℕ
 cannot_open name = concat (codes "cannot open " ∷ name ∷ codes "\n" ∷ [])
 
@@ -49,7 +46,6 @@ site_text fault.NoMemory = out_of_memory_text
 abbrev pub text_of_fault : FaultText → List ℕ
 text_of_fault told.Usage = usage_text
 text_of_fault (told.Site fault) = site_text fault
-text_of_fault told.NotBuilt = not_built_text
 text_of_fault (told.CannotOpen name) = cannot_open name
 text_of_fault (told.ReadFailed name) = read_failed name
 text_of_fault told.WriteFailed = write_failed_text

@@ -1,6 +1,7 @@
 pub mod Content
 pub mod Counts
-pub mod Cycle
+pub mod Cursors
+pub mod Cycling
 pub mod Ends
 pub mod FaultTexts
 pub mod Feeds
@@ -16,8 +17,7 @@ pub mod Stops
 pub mod Telling
 pub mod Words
 pub mod Works
-pub use Rattle.cat004_write.specs.Blocks
-pub use Rattle.cat004_write.specs.Messages
+pub use Rattle.cycle_engine.specs.Cycles
 pub use Rattle.cat062_read.specs.Records
 pub use Rattle.asterix_blocks.specs.Framing
 pub use Rattle.cat062_read.specs.Tracks

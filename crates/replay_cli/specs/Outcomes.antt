@@ -1,14 +1,14 @@
 -- What each exit status says of what the run found, and what the two sinks took (this project's profile).
-use Rattle.std.specs.Prelude.{◌≡◌, ◌≢◌, ◌⊎◌, ℕ, true, false, List, Option, Contains}
+use Rattle.std.specs.Prelude.{◌≡◌, ◌≢◌, ◌⊎◌, ℕ, ◌+◌, true, false, List, map, Option, Contains}
 use Rattle.std.specs.Io.KnownBytes.{Appends}
 use Rattle.outside_io.specs.Bytes.{AppendsPrefix}
 use Rattle.outside_io.specs.Faults.{Rose}
 use Rattle.site_params.specs.declared.fault.SiteFault.{SiteFault}
 use Rattle.site_params.specs.declared.site.Site.{Site}
-use Rattle.replay_cli.specs.Content.{feeds_are_intact}
-use Rattle.replay_cli.specs.FaultTexts.{cannot_open, not_built_text, out_of_memory_text, read_failed, site_text, usage_text, write_failed_text}
+use Rattle.replay_cli.specs.Content.{content, feeds_are_intact}
+use Rattle.replay_cli.specs.FaultTexts.{cannot_open, out_of_memory_text, read_failed, site_text, usage_text, write_failed_text}
 use Rattle.replay_cli.specs.Found.{Found, OtherWords, Untold, Lacking, Refused, Given}
-use Rattle.replay_cli.specs.Reference.{reference, FeedsAreSupported}
+use Rattle.replay_cli.specs.Reference.{examined, reference}
 use Rattle.replay_cli.specs.Counts.{report_of}
 use Rattle.replay_cli.specs.ReportText.{text_of}
 use Rattle.replay_cli.specs.declared.report.counts.Report.{Report}
@@ -21,14 +21,12 @@ IsDone status = (status ≡ 0) ⊎ (status ≡ 7)
 abbrev pub IsRefused : ℕ → Type 0
 IsRefused status = (status ≡ 3) ⊎ (status ≡ 4) ⊎ (status ≡ 6)
 
--- what a status says of feeds under a site: at 3 they aren't supported; at 0, 5 and 7 they are; at 0 they are intact,
--- and at 7 they aren't
-pub record JudgesFeeds (site : Site) (feeds : List (List ℕ)) (status : ℕ) : Type 0 where
+-- what a status says of feeds under an accepted site: at 0 they are intact, and at 7 they aren't
+pub record JudgesFeeds (feeds : List (List ℕ)) (status : ℕ) : Type 0 where
   pub words : status ≢ 2
-  pub refused : status ≡ 3 → FeedsAreSupported site feeds → ⊥
-  pub intact : status ≡ 0 → FeedsAreSupported site feeds × (feeds_are_intact feeds ≡ true)
-  pub damaged : status ≡ 7 → FeedsAreSupported site feeds × (feeds_are_intact feeds ≡ false)
-  pub cut_off : status ≡ 5 → FeedsAreSupported site feeds
+  pub accepted : status ≢ 3
+  pub intact : status ≡ 0 → feeds_are_intact feeds ≡ true
+  pub damaged : status ≡ 7 → feeds_are_intact feeds ≡ false
 
 -- which statuses may come for what was found
 abbrev pub Judges : Found → ℕ → Type 0
@@ -36,7 +34,7 @@ Judges OtherWords status = (status ≡ 2) ⊎ (status ≡ 6)
 Judges Untold status = status ≢ 2
 Judges (Lacking name) status = (status ≡ 4) ⊎ (status ≡ 6)
 Judges (Refused fault) status = IsRefused status
-Judges (Given site feeds) status = JudgesFeeds site feeds status
+Judges (Given site feeds) status = JudgesFeeds feeds status
 
 -- a sink before a run and after it: what it took, and its count of faults
 pub record Sunk : Type 0 where
@@ -55,9 +53,25 @@ pub record WritesAlerts (status : ℕ) (out : Sunk) (alerts : List ℕ) : Type 0
   pub done : IsDone status → Appends out.before out.after alerts
   pub unbroken : status ≡ 5 → (Rose out.faults_before out.faults_after → ⊥) → Appends out.before out.after alerts
 
--- so it is of supported feeds
+-- they are the reference's
 abbrev pub Serves : ℕ → Sunk → Site → List (List ℕ) → Type 0
-Serves status out site feeds = FeedsAreSupported site feeds → WritesAlerts status out (reference site feeds)
+Serves status out site feeds = WritesAlerts status out (reference site feeds)
+
+-- as many steps were taken as the reference examines pairs
+abbrev pub CountsPairs : ℕ → ℕ → Site → List (List ℕ) → Type 0
+CountsPairs before after site feeds = after ≡ before + examined site (map content feeds)
+
+-- the words, the site and the feeds were accepted, and cycles are made
+abbrev pub HasBegun : Found → Type 0
+HasBegun OtherWords = ⊥
+HasBegun Untold = Unit {0}
+HasBegun (Lacking name) = ⊥
+HasBegun (Refused fault) = ⊥
+HasBegun (Given site feeds) = Unit {0}
+
+-- alert bytes may have been written
+abbrev pub MayWrite : Found → ℕ → Type 0
+MayWrite found status = IsDone status ⊎ (status ≡ 5) ⊎ ((status ≡ 6) × HasBegun found)
 
 -- ---- the text that is due on `report`
 
@@ -69,11 +83,11 @@ IsReport Untold text = (report : Report) × (text ≡ text_of report)
 IsReport (Lacking name) text = ⊥
 IsReport (Refused fault) text = ⊥
 
--- why the site or its feeds are refused
+-- why the site is refused
 abbrev pub IsRefusal : Found → List ℕ → Type 0
-IsRefusal (Given site feeds) text = text ≡ not_built_text
+IsRefusal (Given site feeds) text = ⊥
 IsRefusal OtherWords text = ⊥
-IsRefusal Untold text = (text ≡ not_built_text) ⊎ ((fault : SiteFault) × (text ≡ site_text fault))
+IsRefusal Untold text = (fault : SiteFault) × (text ≡ site_text fault)
 IsRefusal (Lacking name) text = ⊥
 IsRefusal (Refused fault) text = text ≡ site_text fault
 

@@ -1,16 +1,14 @@
--- The alert bytes of supported feeds: the plain reference, which examines every pair (this project's profile).
-use Rattle.std.specs.Prelude.{◌≡◌, ℕ, All, List, map, unsigned_abs}
+-- The alert bytes of feeds: the plain reference, which examines every pair of every cycle (this project's profile).
+use Rattle.std.specs.Prelude.{ℕ, ◌+◌, zero, suc, max, List, [], ◌∷◌, map}
 use Rattle.std.specs.List.{enumerate_from, filter_map, flat_map}
-use Rattle.cat004_write.specs.Blocks.{pack}
-use Rattle.cat004_write.specs.Messages.{message}
-use Rattle.cat004_write.specs.declared.event.Event.{Event}
 use Rattle.cat062_read.specs.Tracks.{track_of}
 use Rattle.cat062_read.specs.declared.record.Raw062.{Raw062}
+use Rattle.cycle_engine.specs.Cycles as all
 use Rattle.track_motion.specs.declared.rank.Stamped.{Stamped}
 use Rattle.track_motion.specs.declared.track.Track.{Track}
+use Rattle.track_table.specs.Proper.{frozen_of}
 use Rattle.track_table.specs.Stamps.{stamps_of}
-use Rattle.track_table.specs.Tables.{table}
-use Rattle.replay_cli.specs.Cycle.{events, hits_of, movers, taken_at}
+use Rattle.track_table.specs.declared.table.Frozen.{Frozen}
 use Rattle.replay_cli.specs.Content.{Content, content}
 use Rattle.site_params.specs.declared.site.Site.{Site}
 
@@ -29,34 +27,30 @@ stamps_told site feed raws = stamps_of site.start site.period feed (tracks_of si
 abbrev pub stamps : Site → List Content → List Stamped
 stamps site feeds = flat_map (λ feed. stamps_told site feed.0 feed.1.records) (enumerate_from 0 feeds)
 
--- the table of cycle 0
-abbrev pub rows : Site → List Content → List Stamped
-rows site feeds = table site.start site.period site.timeout 0 (stamps site feeds)
+-- how many cycles are made of records: those up to the last that one was told in, and none without a record
+abbrev pub cycles_of : List Stamped → ℕ
+cycles_of [] = 0
+cycles_of (s ∷ others) = max (s.window + 1) (cycles_of others)
 
--- the events of a table
-abbrev pub events_at : Site → List Stamped → List Event
-events_at site rows = events site (hits_of site (movers site rows))
+abbrev pub cycles : Site → List Content → ℕ
+cycles site feeds = cycles_of (stamps site feeds)
 
--- those of cycle 0
-abbrev pub events_in : Site → List Content → List Event
-events_in site feeds = events_at site (rows site feeds)
+-- the tables of the first cycles, so many, over all records; the newest first
+abbrev pub tables_of : Site → List Stamped → ℕ → List Frozen
+tables_of site records zero = []
+tables_of site records (suc k) = frozen_of site.start site.period site.timeout k records ∷ tables_of site records k
 
-abbrev pub messages : Site → List Event → List (List ℕ)
-messages site es = map (λ e. message e (unsigned_abs (taken_at site)) site.sac site.sic) es
+-- the tables of all cycles
+abbrev pub tables : Site → List Content → List Frozen
+tables site feeds = tables_of site (stamps site feeds) (cycles site feeds)
 
--- their alert bytes
+-- the alert bytes of all cycles
 abbrev pub alerts : Site → List Content → List ℕ
-alerts site feeds = pack (messages site (events_in site feeds))
+alerts site feeds = all.alerts site (tables site feeds)
 
 abbrev pub reference : Site → List (List ℕ) → List ℕ
 reference site feeds = alerts site (map content feeds)
 
--- all were told in cycle 0
-abbrev pub AreInCycle : List Stamped → Type 0
-AreInCycle stamps = All (λ s. s.window ≡ 0) stamps
-
-abbrev pub AreSupported : Site → List Content → Type 0
-AreSupported site feeds = AreInCycle (stamps site feeds)
-
-abbrev pub FeedsAreSupported : Site → List (List ℕ) → Type 0
-FeedsAreSupported site feeds = AreSupported site (map content feeds)
+-- how many pairs are examined in all cycles
+abbrev pub examined : Site → List Content → ℕ
+examined site feeds = all.count_all_examined site (tables site feeds)

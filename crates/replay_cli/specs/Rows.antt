@@ -5,7 +5,6 @@ use Rattle.track_motion.specs.declared.motion.TheConstants.{LONGEST_AGE}
 use Rattle.track_motion.specs.declared.rank.Stamped.{Stamped}
 use Rattle.track_table.specs.Held.{Held}
 use Rattle.track_table.specs.Kept.{StandsFor}
-use Rattle.track_table.specs.Proper.{IsTold}
 use Rattle.track_table.specs.Times.{day}
 
 -- a site's times and correction
@@ -22,8 +21,3 @@ pub record IsTimed (site : Site) : Type 0 where
 pub record Puts (old new : Held) (stamps : List Stamped) : Type 0 where
   pub stands : (puts : List Stamped) → StandsFor old puts → StandsFor new (puts ++ stamps)
   pub others : new ≡ record old { kept = new.kept }
-
--- a record as feeds tell it in cycle 0
-pub record IsOfCycle (site : Site) (s : Stamped) : Type 0 where
-  pub window : s.window ≡ 0
-  pub told : IsTold site.start site.period s

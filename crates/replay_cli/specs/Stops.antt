@@ -14,7 +14,7 @@ use Rattle.replay_cli.specs.Run.{Files}
 use Rattle.replay_cli.specs.declared.input.Unread as unread
 use Rattle.replay_cli.specs.declared.input.Unread.TheVariants as unreads
 use Rattle.replay_cli.specs.declared.texts.FaultText.{FaultText}
-use Rattle.replay_cli.specs.declared.texts.FaultText.TheVariants.{Usage, NotBuilt, CannotOpen, ReadFailed, WriteFailed, NoMemory}
+use Rattle.replay_cli.specs.declared.texts.FaultText.TheVariants.{Usage, CannotOpen, ReadFailed, WriteFailed, NoMemory}
 use Rattle.replay_cli.specs.declared.texts.FaultText.TheVariants as texts
 
 -- a name that wasn't opened wasn't read, for the same cause
@@ -38,7 +38,6 @@ site_fault fault = texts.Site fault
 abbrev pub stop_status : FaultText → ℕ
 stop_status Usage = 2
 stop_status (texts.Site fault) = 3
-stop_status NotBuilt = 3
 stop_status (CannotOpen name) = 4
 stop_status (ReadFailed name) = 4
 stop_status WriteFailed = 5
@@ -48,7 +47,6 @@ stop_status NoMemory = 6
 abbrev pub is_unread : FaultText → Bool
 is_unread Usage = false
 is_unread (texts.Site fault) = false
-is_unread NotBuilt = false
 is_unread (CannotOpen name) = true
 is_unread (ReadFailed name) = true
 is_unread WriteFailed = false
@@ -67,7 +65,6 @@ IsReading (Some files) name reading = option_map site_of_text (bytes_of name fil
 abbrev pub StopsNamed : Option Files → ℕ → ℕ → List ℕ → FaultText → Type 0
 StopsNamed files before after name Usage = ⊥
 StopsNamed files before after name (texts.Site fault) = ⊥
-StopsNamed files before after name NotBuilt = ⊥
 StopsNamed files before after name (CannotOpen other) = (other ≡ name) × (Lacks files name ⊎ Rose before after)
 StopsNamed files before after name (ReadFailed other) = (other ≡ name) × Rose before after
 StopsNamed files before after name WriteFailed = ⊥
@@ -77,7 +74,6 @@ StopsNamed files before after name NoMemory = ⊤
 abbrev pub StopsSite : Option Files → ℕ → ℕ → List ℕ → FaultText → Type 0
 StopsSite files before after name (texts.Site fault) = IsReading files name (Err fault)
 StopsSite files before after name Usage = ⊥
-StopsSite files before after name NotBuilt = ⊥
 StopsSite files before after name (CannotOpen other) = StopsNamed files before after name (CannotOpen other)
 StopsSite files before after name (ReadFailed other) = StopsNamed files before after name (ReadFailed other)
 StopsSite files before after name WriteFailed = ⊥

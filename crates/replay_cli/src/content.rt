@@ -1,6 +1,7 @@
 //! The content of a feed.
-ghost use Rattle.std.specs.Prelude.{◌≡◌, IfOk};
+ghost use Rattle.std.specs.Prelude.{◌≡◌, IfOk, count_by};
 ghost use Rattle.asterix_blocks.specs.declared.blocks.End.{End};
+ghost use Rattle.cat062_read.specs.Tracks.{is_usable as usable};
 ghost use Rattle.replay_cli.specs.Content.{is_intact as intact};
 ghost use Rattle.replay_cli.specs.Counts.{feed_count};
 ghost use Rattle.replay_cli.specs.Feeds.{content_as};
@@ -8,7 +9,7 @@ ghost use Rattle.replay_cli.specs.Feeds.{content_as};
 use crate::input::Gathered;
 use crate::report::{FeedCount, Refusals};
 use asterix_blocks::End;
-use cat062_read::Raw062;
+use cat062_read::{Raw062, is_usable};
 use std::alloc::{AllocError, Global};
 use std::marker::Model;
 
@@ -51,9 +52,16 @@ impl Input {
         self.gathered.refused.is_empty() && matches!(self.end, End::Clean)
     }
 
-    /// What a report says of the feed, where so many of its records are usable.
-    pub fn count(&self, alloc: Global, tracks: u64) -> Result<FeedCount, AllocError>
-        ensures { IfOk result (λ count. count ≡ feed_count self.now tracks) }
+    /// How many of the records are usable.
+    fn tracks(&self) -> u64
+        ensures { result ≡ count_by usable self.now.records }
+    {
+        self.records().iter().filter(|raw| is_usable(raw)).count() as u64
+    }
+
+    /// What a report says of the feed.
+    pub fn count(&self, alloc: Global) -> Result<FeedCount, AllocError>
+        ensures { IfOk result (λ count. count ≡ feed_count self.now) }
     {
         let Gathered {
             blocks,
@@ -65,7 +73,7 @@ impl Input {
             blocks: *blocks,
             passed: *passed,
             records: records.len() as u64,
-            tracks,
+            tracks: self.tracks(),
             refused: Refusals::printed_of(alloc, refused.as_slice())?,
             refusals: refused.len() as u64,
             end: self.end,

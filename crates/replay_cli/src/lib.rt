@@ -1,22 +1,20 @@
 //! The program as one function over words, a world and sinks.
 #![tactic(auto)]
 
-mod alerts;
 mod content;
-pub mod cycle;
+mod cursor;
+mod cycles;
 mod input;
 pub mod laws;
 mod named;
 pub mod report;
 mod request;
-pub mod table;
 pub mod texts;
 mod top;
 pub mod words;
 mod work;
 
 pub use report::{FeedCount, FeedCounts, Refusals, Report, report_text};
-pub use table::unbuilt;
 pub use texts::{FaultText, USAGE, tell};
 pub use top::replay_top;
 pub use words::{Plan, WordsFault, read_words};

@@ -2,7 +2,7 @@
 
 mod alerts;
 mod blocks;
-mod content;
+mod cycles;
 mod damage;
 mod failures;
 mod feeds;
@@ -10,10 +10,8 @@ mod memory;
 mod outside;
 mod plots;
 mod report;
-mod rows;
 mod several;
 mod site;
 mod splits;
-mod supported;
 mod told;
 mod words;

@@ -26,8 +26,6 @@ pub enum FaultText {
     Usage,
     /// A site that is refused.
     Site(SiteFault),
-    /// What the program doesn't do yet.
-    NotBuilt,
     /// A name that doesn't open.
     CannotOpen(Name),
     /// A name of which a read failed.
@@ -53,7 +51,6 @@ fn tell_fault<K: Sink>(text: &FaultText, sink: &mut K) -> Result<(), Failed>
     match text {
         FaultText::Usage => write_whole(sink, USAGE.as_bytes()),
         FaultText::Site(fault) => tell_site(*fault, sink),
-        FaultText::NotBuilt => write_whole(sink, b"not built\n"),
         FaultText::CannotOpen(name) => tell_named("cannot open ", name.as_str(), sink),
         FaultText::ReadFailed(name) => tell_named("read failed: ", name.as_str(), sink),
         FaultText::WriteFailed => write_whole(sink, b"write failed\n"),

@@ -1,8 +1,8 @@
 //! The program as one function over words, a world and sinks.
-ghost use Rattle.std.specs.Prelude.{◌≡◌, ◌≢◌, ◌≤◌, ◌⊎◌};
+ghost use Rattle.std.specs.Prelude.{◌≡◌, ◌≢◌, ◌≤◌, ◌⊎◌, OnOk};
 ghost use Rattle.outside_io.specs.Faults.{Rose};
 ghost use Rattle.replay_cli.specs.Found.{found, names_of, request as requested, IfGiven, IsLacking};
-ghost use Rattle.replay_cli.specs.Outcomes.{Judges, Reports, Serves, sunk, IsDone};
+ghost use Rattle.replay_cli.specs.Outcomes.{CountsPairs, Judges, MayWrite, Reports, Serves, sunk, IsDone};
 ghost use Rattle.replay_cli.specs.Ends.{Ends, Finishes, change, ran, status_done, status_of};
 ghost use Rattle.replay_cli.specs.FaultTexts.{text_of_fault};
 ghost use Rattle.replay_cli.specs.Stops.{stop_status as status_stopped};
@@ -28,13 +28,14 @@ fn replay<W: World, K: Sink, L: Ledger>(
     ensures ends { Ends (ran (W.files world.old) (texts words.now)
         (change (W.faults world.old) (W.faults world.new))
         (sunk (K.taken out.old) (K.taken out.new) (K.faults out.old) (K.faults out.new))) result }
+    ensures counted { OnOk result (IfGiven (found (W.files world.old) (texts words.now)) (CountsPairs steps.old steps.new)) }
 
     // What stays as it was.
     ensures unfailed { status_of result ≢ 4 → W.faults world.new ≡ W.faults world.old }
     ensures later { W.faults world.old ≤ W.faults world.new }
     ensures unbroken { status_of result ≢ 5 → K.faults out.new ≡ K.faults out.old }
     ensures louder { K.faults out.old ≤ K.faults out.new }
-    ensures unused { status_of result ≢ 0 → status_of result ≢ 5 → status_of result ≢ 7 → out.new ≡ out.old }
+    ensures unused { (MayWrite (found (W.files world.old) (texts words.now)) (status_of result) → ⊥) → out.new ≡ out.old }
     ensures files { W.files world.new ≡ W.files world.old }
     ensures closed { W.opened world.new ≡ W.opened world.old }
     ensures steps { steps.old ≤ steps.new }
@@ -42,11 +43,7 @@ fn replay<W: World, K: Sink, L: Ledger>(
     let Request { site, feeds } = asked(alloc, words)?;
     let site = site_of(alloc, world, site)?;
     let inputs = feeds_of(alloc, world, feeds)?;
-    let work = work_of(alloc, &site, &inputs, steps)?;
-    if write_whole(out, &work.alerts).is_err() {
-        return Err(FaultText::WriteFailed);
-    }
-    Ok(work)
+    work_of(alloc, &site, &inputs, out, steps)
 }
 
 /// The exit status of a run whose work is done.
@@ -62,7 +59,7 @@ fn stop_status(stop: &FaultText) -> u8
 {
     match stop {
         FaultText::Usage => 2,
-        FaultText::Site(_) | FaultText::NotBuilt => 3,
+        FaultText::Site(_) => 3,
         FaultText::CannotOpen(_) | FaultText::ReadFailed(_) => 4,
         FaultText::WriteFailed => 5,
         FaultText::NoMemory => 6,
@@ -96,9 +93,9 @@ fn finish<K: Sink>(ending: Result<Work, FaultText>, report: &mut K) -> u8
 }
 
 /// Does all that the program does, and answers the exit status: 0 done, 2 for words that ask for nothing that
-/// is done here, 3 for a site that is refused or feeds that aren't supported so far, 4 for a name that can't be
-/// opened or a read that failed, 5 for a write that failed, 6 for want of memory, 7 done with something refused
-/// or a feed that doesn't end behind a whole block. The order is words, site, feeds, support, alerts, report.
+/// is done here, 3 for a site that is refused, 4 for a name that can't be opened or a read that failed, 5 for a
+/// write that failed, 6 for want of memory, 7 done with something refused or a feed that doesn't end behind a
+/// whole block. The order is words, site, feeds, the cycles one after the other, report.
 pub fn replay_top<W: World, K: Sink, L: Ledger>(
     alloc: Global,
     words: &[String],
@@ -109,10 +106,12 @@ pub fn replay_top<W: World, K: Sink, L: Ledger>(
     // No other status comes.
     ensures statuses { (result ≡ 0) ⊎ (result ≡ 2) ⊎ (result ≡ 3) ⊎ (result ≡ 4) ⊎ (result ≡ 5) ⊎ (result ≡ 6) ⊎ (result ≡ 7) }
 
-    // The headline: where the world tells the site and the feeds and these are supported, the statuses 0 and 7
-    // have written the reference's alert bytes to `out`, and any other status a prefix of them.
+    // The headline: where the world tells the site and the feeds, the statuses 0 and 7 have written the reference's
+    // alert bytes to `out`, those of all cycles, and any other status a prefix of them.
     ensures headline { IfGiven (found (W.files world.old) (texts words.now))
         (Serves result (sunk (K.taken sinks.old.out) (K.taken sinks.new.out) (K.faults sinks.old.out) (K.faults sinks.new.out))) }
+
+    ensures counted { IsDone result → IfGiven (found (W.files world.old) (texts words.now)) (CountsPairs steps.old steps.new) }
 
     // The cause of each status.
     ensures judged { Judges (found (W.files world.old) (texts words.now)) result }
@@ -132,7 +131,7 @@ pub fn replay_top<W: World, K: Sink, L: Ledger>(
     ensures report_later { K.faults sinks.old.report ≤ K.faults sinks.new.report }
 
     // What stays as it was.
-    ensures unused { result ≢ 0 → result ≢ 5 → result ≢ 7 → sinks.new.out ≡ sinks.old.out }
+    ensures unused { (MayWrite (found (W.files world.old) (texts words.now)) result → ⊥) → sinks.new.out ≡ sinks.old.out }
     ensures files { W.files world.new ≡ W.files world.old }
     ensures closed { W.opened world.new ≡ W.opened world.old }
     ensures steps { steps.old ≤ steps.new }

@@ -1,28 +1,29 @@
-//! What a run has to write: its alert bytes and its report.
-ghost use Rattle.std.specs.Prelude.{◌≡◌, ◌⊎◌, ◌≤◌, IfErr, IfOk, length, nat_lt};
-ghost use Rattle.std.specs.List.{list_any};
+//! What a run comes to: it writes the alert bytes of all cycles, and makes the report.
+ghost use Rattle.std.specs.Prelude.{◌≡◌, ◌⊎◌, ◌+◌, ◌≤◌, IfErr, IfOk, IsErrOf, OnErr, OnOk, length, map};
+ghost use Rattle.std.specs.Io.KnownBytes.{Appends};
+ghost use Rattle.outside_io.specs.Bytes.{AppendsPrefix};
+ghost use Rattle.outside_io.specs.Faults.{Rose};
 ghost use Rattle.site_params.specs.Ranges.{IsSite};
 ghost use Rattle.replay_cli.specs.Content.{are_intact as intact};
-ghost use Rattle.replay_cli.specs.Counts.{cycles_of, report_by};
+ghost use Rattle.replay_cli.specs.Counts.{feed_count, report_by};
 ghost use Rattle.replay_cli.specs.Feeds.{AreTellable};
-ghost use Rattle.replay_cli.specs.Reference.{AreSupported};
+ghost use Rattle.replay_cli.specs.Reference.{alerts, examined};
 ghost use Rattle.replay_cli.specs.Works.{IsWork};
 ghost use Rattle.replay_cli.specs.declared.words.plan.TheConstants.{MOST_FEEDS};
 
-use crate::alerts::alerts_of;
 use crate::content::Input;
+use crate::cycles::{Made, make_cycles};
 use crate::report::{FeedCount, FeedCounts, Report, report_text};
-use crate::table::{Tabled, Unserved, table_of};
 use crate::texts::FaultText;
-use outside_io::Steps;
+use cycle_engine::CycleFault;
+use outside_io::{Sink, Steps};
 use site_params::Site;
-use std::alloc::{AllocError, Global};
+use std::alloc::{AllocError, AllocFailed, Global};
 use std::sync::ledger::Ledger;
 
-/// What a run has to write to `out` and to `report`, and whether its feeds are intact.
+/// What a run has to write to `report`, and whether its feeds are intact.
 #[derive(Debug, Drop)]
 pub struct Work {
-    pub alerts: Vec<u8>,
     pub report: Vec<u8>,
     pub is_intact: bool,
 }
@@ -38,42 +39,51 @@ impl From<AllocError> for FaultText {
     }
 }
 
-impl From<Unserved> for FaultText {
+impl From<AllocFailed<FeedCount>> for FaultText {
+    ghost use Rattle.std.specs.Prelude.{◌≡◌};
+    ghost use Rattle.replay_cli.specs.declared.texts.FaultText.TheVariants.{NoMemory};
+
+    ghost from_gives = { λ _ e. e ≡ NoMemory };
+
+    fn from(_: AllocFailed<FeedCount>) -> Self {
+        FaultText::NoMemory
+    }
+}
+
+impl From<CycleFault> for FaultText {
     ghost use Rattle.replay_cli.specs.Works.{GivesFault};
 
     ghost from_gives = { GivesFault };
 
-    fn from(unserved: Unserved) -> Self {
-        match unserved {
-            Unserved::Unsupported => FaultText::NotBuilt,
-            Unserved::NoMemory => FaultText::NoMemory,
+    fn from(fault: CycleFault) -> Self {
+        match fault {
+            CycleFault::NoMemory => FaultText::NoMemory,
+            CycleFault::WriteFault => FaultText::WriteFailed,
         }
     }
 }
 
-/// A record of one of the feeds is usable.
-fn is_some_usable(feeds: &[FeedCount]) -> bool
-    ensures { result ≡ list_any (λ feed. nat_lt 0 feed.tracks) feeds.now }
+/// What was read of each feed.
+fn counts_of(alloc: Global, inputs: &[Input]) -> Result<Vec<FeedCount>, FaultText>
+    ensures counts { IfOk result (λ counts. counts.items ≡ map feed_count inputs.now) }
+    ensures memory { IfErr result (λ e. e ≡ FaultText.NoMemory) }
 {
-    feeds.iter().any(|feed| feed.tracks > 0)
+    let mut counts = Vec::new(alloc);
+    for input in inputs {
+        counts.push(input.count(alloc)?)?;
+    }
+    Ok(counts)
 }
 
-/// Cycle 0 alone is made, and none without a usable record.
-fn cycles(feeds: &[FeedCount]) -> u64
-    ensures { result ≡ cycles_of feeds.now }
-{
-    if is_some_usable(feeds) { 1 } else { 0 }
-}
-
-/// The report of feeds in which so many alerts begin.
-fn report_of(feeds: Vec<FeedCount>, firsts: usize) -> Report
-    ensures { result ≡ report_by feeds.items firsts }
+/// The report of feeds whose cycles came to this.
+fn report_of(feeds: Vec<FeedCount>, made: Made) -> Report
+    ensures { result ≡ report_by feeds.items made }
 {
     Report {
-        cycles: cycles(&feeds),
+        cycles: made.cycles,
         feeds: FeedCounts::new(feeds),
-        firsts: firsts as u64,
-        messages: firsts as u64,
+        firsts: made.firsts,
+        messages: made.messages,
     }
 }
 
@@ -84,25 +94,31 @@ fn are_intact(inputs: &[Input]) -> bool
     inputs.iter().all(|input| input.is_intact())
 }
 
-/// What a run over feeds of these contents has to write.
-pub fn work_of<L: Ledger>(
+/// Makes all cycles of feeds of these contents and writes their alert bytes; what is to be reported of them.
+pub fn work_of<K: Sink, L: Ledger>(
     alloc: Global,
     site: &Site,
     inputs: &[Input],
+    out: &mut K,
     steps: &mut Steps<L>,
 ) -> Result<Work, FaultText>
     requires site { IsSite site.now }
     requires tellable { AreTellable inputs.now }
     requires few { length inputs.now ≤ MOST_FEEDS }
     ensures work { IfOk result (IsWork site.now inputs.now) }
-    ensures fault { IfErr result (λ e. (e ≡ FaultText.NoMemory) ⊎ ((e ≡ FaultText.NotBuilt) × (AreSupported site.now inputs.now → ⊥))) }
-    ensures steps { steps.old ≤ steps.new }
+    ensures alerts { OnOk result (Appends (K.taken out.old) (K.taken out.new) (alerts site.now inputs.now)) }
+    ensures counted { OnOk result (steps.new ≡ steps.old + examined site.now inputs.now) }
+    ensures prefix { OnErr result (AppendsPrefix (K.taken out.old) (K.taken out.new) (alerts site.now inputs.now)) }
+    ensures fault { IfErr result (λ e. (e ≡ FaultText.NoMemory) ⊎ (e ≡ FaultText.WriteFailed)) }
+    ensures broken { IsErrOf result FaultText.WriteFailed → Rose (K.faults out.old) (K.faults out.new) }
+    ensures unbroken { (IsErrOf result FaultText.WriteFailed → ⊥) → K.faults out.new ≡ K.faults out.old }
+    ensures louder { K.faults out.old ≤ K.faults out.new }
+    ensures later { steps.old ≤ steps.new }
 {
-    let Tabled { frozen, counts } = table_of(alloc, site, inputs)?;
-    let alerts = alerts_of(alloc, site, &frozen, steps)?;
-    let report = report_text(alloc, &report_of(counts, alerts.firsts))?;
+    let made = make_cycles(alloc, site, inputs, out, steps)?;
+    let counts = counts_of(alloc, inputs)?;
+    let report = report_text(alloc, &report_of(counts, made))?;
     Ok(Work {
-        alerts: alerts.bytes,
         report,
         is_intact: are_intact(inputs),
     })

@@ -1,7 +1,7 @@
 //! Messages in blocks: 35 in each but the last.
 
 use super::outside::{Outside, expect_octets, replayed};
-use super::plots::{HEAD_ON, Plot, at_rest};
+use super::plots::{HEAD_ON, Plot};
 use std::alloc::{AllocError, Global};
 use std::test::Fail;
 
@@ -49,24 +49,5 @@ fn one_message_more_than_a_block_has(rt: HostRuntime) -> Result<(), Fail> {
     ];
     assert!(rt; ran.out.starts_with(&first));
     assert!(rt; ran.out.ends_with(&last));
-    Ok(())
-}
-
-/// Twelve tracks at one place and five pairs far from it and from each other: 66 and 5 messages.
-#[test]
-fn two_whole_blocks_and_one_message(rt: HostRuntime) -> Result<(), Fail> {
-    let alloc = rt.alloc();
-    let mut feed = Vec::new(alloc);
-    for number in 0..12u16 {
-        feed.append(&mut at_rest(number, 0).block(alloc)?)?;
-    }
-    for pair in 1..6u16 {
-        let x = i32::from(pair) * 100_000;
-        feed.append(&mut at_rest(100 + 2 * pair, x).block(alloc)?)?;
-        feed.append(&mut at_rest(101 + 2 * pair, x).block(alloc)?)?;
-    }
-    let ran = replayed(alloc, Outside::of(&feed))?;
-    expect_octets(&rt, &ran, 0, 2778, "71 messages");
-    assert!(rt; lengths(alloc, &ran.out)?.as_slice() == [1368, 1368, 42].as_slice());
     Ok(())
 }

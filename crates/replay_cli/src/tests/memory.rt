@@ -1,19 +1,18 @@
 //! Want of memory.
 
-use super::feeds::{ALERT, FIRST, SECOND, joined};
-use super::outside::{Outside, expect, replayed};
+use super::cycles::{GOES_ON, recorded};
 use std::test::Fail;
 
-/// With memory it is done; where an allocation is refused, nothing was written.
+/// With memory it is done; where an allocation is refused, the bytes of some whole cycles were written.
 #[test]
 fn want_of_memory(rt: HostRuntime) -> Result<(), Fail> {
-    let alloc = rt.alloc();
-    let feed = joined(alloc, &[&FIRST, &SECOND])?;
-    let ran = replayed(alloc, Outside::of(&feed))?;
+    let ran = recorded(rt.alloc(), &[])?;
     if ran.status == 6 {
-        expect(&rt, &ran, 6, &[], "an allocation that is refused");
+        assert!(rt; [0, 42, 68, 94, 120].contains(&ran.out.len()));
+        assert!(rt; GOES_ON.starts_with(&ran.out));
     } else {
-        expect(&rt, &ran, 0, &ALERT, "ample memory");
+        assert_eq!(rt; ran.status, 0);
+        assert!(rt; ran.out.as_slice() == GOES_ON.as_slice());
     }
     Ok(())
 }

@@ -195,7 +195,6 @@ fn fault_texts(rt: HostRuntime) -> Result<(), Fail> {
     let name = Name::new(String::from_str(alloc, "none.ast")?);
     let other = Name::new(String::from_str(alloc, "site.toml")?);
     check_text(&rt, alloc, &FaultText::Usage, USAGE)?;
-    check_text(&rt, alloc, &FaultText::NotBuilt, "not built\n")?;
     check_text(
         &rt,
         alloc,

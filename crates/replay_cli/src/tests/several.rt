@@ -177,7 +177,7 @@ fn a_hit_that_is_not_urgent(rt: HostRuntime) -> Result<(), Fail> {
 }
 
 /// A refusal in the second feed is told as that feed's; a name that is lacking and a read that fails are told
-/// wherever they stand, also where another feed isn't supported.
+/// before a cycle is made.
 #[test]
 fn faults_of_the_second_feed(rt: HostRuntime) -> Result<(), Fail> {
     let alloc = rt.alloc();
@@ -192,13 +192,8 @@ alerts 1
 messages 1
 ";
     expect_report(&rt, &ran, report, "a refusal");
-    let late = Plot {
-        time: Some(4_608_512),
-        ..HEAD_ON
-    };
-    let late = late.block(alloc)?;
     let words = ["replay", "--site", SITE, NAME, "none.ast"];
-    let ran = run_words(alloc, Outside::of(&late), &words)?;
+    let ran = run_words(alloc, Outside::of(&FIRST), &words)?;
     expect(&rt, &ran, 4, &[], "a name that is lacking");
     expect_report(
         &rt,
@@ -208,13 +203,10 @@ messages 1
     );
     let outside = Outside {
         failing_other_reads: &[0],
-        ..Outside::of(&late)
+        ..Outside::of(&FIRST)
     };
     let ran = run_words(alloc, outside, &["replay", "--site", SITE, NAME, OTHER])?;
     expect_faults(&rt, &ran, 4, &[], WORLD_FAULT, "a read that fails");
     expect_report(&rt, &ran, "read failed: b.ast\n", "a read that fails");
-    let ran = both(alloc, super::site::SITE_A, &FIRST, &late)?;
-    expect(&rt, &ran, 3, &[], "a late record");
-    expect_report(&rt, &ran, "not built\n", "a late record");
     Ok(())
 }

@@ -1,8 +1,8 @@
 use Rattle.std.proofs.Common.{◌≡◌, ◌∙◌, ◌<◌, ◌≤◌, [], ℕ, List, get_or, length, sym, ap, arith, rules}
 use Rattle.std.proofs.lemmas.List.{get_or_default}
+use Rattle.std.proofs.lemmas.List.Elements.{All-push}
 use Rattle.std.specs.String.{string_bytes}
 use Rattle.replay_cli.specs.Feeds.{IsTellable, ReadsNamed}
-use Rattle.replay_cli.proofs.Feeding.{all_push}
 use Rattle.replay_cli.proofs.Read.{all_read, one_more_read}
 use Rattle.replay_cli.proofs.Under.{as_many, memory_among, name_at, stops_unread}
 use Rattle.replay_cli.proofs.named.feeds_of.Goals as goal
@@ -46,7 +46,7 @@ loop-i-preserved g c =
     record {
       names = c.loop-i.invariant.names;
       read = rw c.in_ok-push-in-Ok.ensures.items (one_more_read (g.W.World.files c.args.world.now) c.args.names c.loop-i.i name c.loop-i.inputs.items c.in-Ok.input within here c.loop-i.invariant.read told);
-      tellable = rw c.in_ok-push-in-Ok.ensures.items (all_push IsTellable c.loop-i.inputs.items c.in-Ok.input c.loop-i.invariant.tellable c.in-Ok.ensures.tellable);
+      tellable = rw c.in_ok-push-in-Ok.ensures.items (All-push IsTellable c.loop-i.inputs.items c.in-Ok.input c.loop-i.invariant.tellable c.in-Ok.ensures.tellable);
       count = search rules;
       files = search rules;
       closed = search rules;

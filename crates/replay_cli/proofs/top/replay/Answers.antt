@@ -1,7 +1,4 @@
-use Rattle.std.proofs.Common.{◌≡◌, Ok, Some, rules}
-use Rattle.outside_io.specs.Bytes.{AppendsPrefix}
-use Rattle.outside_io.specs.Faults.{Rose}
-use Rattle.std.specs.Io.KnownBytes.{Appends}
+use Rattle.std.proofs.Common.{◌≡◌, Ok, Some, refl, rules}
 use Rattle.replay_cli.specs.Ends.{change}
 use Rattle.replay_cli.specs.Found.{request}
 use Rattle.replay_cli.specs.Outcomes.{sunk}
@@ -9,8 +6,7 @@ use Rattle.replay_cli.specs.Feeds.{ReadsEach}
 use Rattle.replay_cli.specs.Stops.{IsReading, StopsAmong}
 use Rattle.replay_cli.specs.Words.{texts}
 use Rattle.replay_cli.specs.declared.request.Request.{Request}
-use Rattle.replay_cli.proofs.Ends.{front_of}
-use Rattle.replay_cli.proofs.Under.{breaks, completes, stops_at_feeds, stops_at_form, stops_at_site, stops_later_among}
+use Rattle.replay_cli.proofs.Under.{ends_at_work, stops_at_feeds, stops_at_site, stops_later_among}
 use Rattle.replay_cli.proofs.top.replay.Goals as goal
 
 pub returns-in_err-site-2-clause-ends : goal.returns-in_err-site-2-clause-ends
@@ -18,7 +14,7 @@ returns-in_err-site-2-clause-ends g c =
     let r : Request = c.in_ok-site.field-0 in
     let asked : request (texts c.args.words.now) ≡ Some r = c.in_ok-site.ensures.asked in
     let stops = stops_at_site (g.W.World.files c.args.world.now) (texts c.args.words.now) r c.in_err-site-2.field-0.0 (g.W.World.faults c.args.world.now) (g.W.World.faults c.site_of.new.world)
-    (sunk (g.K.Sink.taken c.args.out.now) (g.K.Sink.taken c.args.out.now) (g.K.Sink.faults c.args.out.now) (g.K.Sink.faults c.args.out.now)) asked c.in_err-site-2.ensures.fault in
+    (sunk (g.K.Sink.taken c.args.out.now) (g.K.Sink.taken c.args.out.now) (g.K.Sink.faults c.args.out.now) (g.K.Sink.faults c.args.out.now)) refl asked c.in_err-site-2.ensures.fault in
     search rules
 
 pub returns-in_err-inputs-clause-ends : goal.returns-in_err-inputs-clause-ends
@@ -29,32 +25,8 @@ returns-in_err-inputs-clause-ends g c =
     let stops : StopsAmong (g.W.World.files c.args.world.now) (g.W.World.faults c.args.world.now) (g.W.World.faults c.feeds_of.new.world) r.feeds c.in_err-inputs.field-0.0 =
     rw (← c.in_ok-site-2.ensures.files) (stops_later_among _ _ _ _ _ _ c.site_of.ensures.later c.in_err-inputs.ensures.fault) in
     let ends = stops_at_feeds (g.W.World.files c.args.world.now) (texts c.args.words.now) r c.in_ok-site-2.site c.in_err-inputs.field-0.0 (g.W.World.faults c.args.world.now) (g.W.World.faults c.feeds_of.new.world)
-    (sunk (g.K.Sink.taken c.args.out.now) (g.K.Sink.taken c.args.out.now) (g.K.Sink.faults c.args.out.now) (g.K.Sink.faults c.args.out.now)) asked reading stops in
+    (sunk (g.K.Sink.taken c.args.out.now) (g.K.Sink.taken c.args.out.now) (g.K.Sink.faults c.args.out.now) (g.K.Sink.faults c.args.out.now)) refl asked reading stops in
     search rules
-
-pub returns-in_err-work-clause-ends : goal.returns-in_err-work-clause-ends
-returns-in_err-work-clause-ends g c =
-    let r : Request = c.in_ok-site.field-0 in
-    let asked : request (texts c.args.words.now) ≡ Some r = c.in_ok-site.ensures.asked in
-    let reading : IsReading (g.W.World.files c.args.world.now) r.site (Ok c.in_ok-site-2.site) = c.in_ok-site-2.ensures.site in
-    let told : ReadsEach (g.W.World.files c.args.world.now) r.feeds c.in_ok-inputs.inputs.items = rw (← c.in_ok-site-2.ensures.files) c.in_ok-inputs.ensures.told in
-    let ends = stops_at_form (g.W.World.files c.args.world.now) (texts c.args.words.now) r c.in_ok-site-2.site c.in_ok-inputs.inputs.items c.in_err-work.field-0.0
-    (change (g.W.World.faults c.args.world.now) (g.W.World.faults c.feeds_of.new.world))
-    (sunk (g.K.Sink.taken c.args.out.now) (g.K.Sink.taken c.args.out.now) (g.K.Sink.faults c.args.out.now) (g.K.Sink.faults c.args.out.now)) asked reading told (rw c.deref.ensures.value at c.in_err-work.ensures.fault) in
-    search rules
-
-pub returns-then-is_err-clause-ends : goal.returns-then-is_err-clause-ends
-returns-then-is_err-clause-ends g c =
-    let r : Request = c.in_ok-site.field-0 in
-    let asked : request (texts c.args.words.now) ≡ Some r = c.in_ok-site.ensures.asked in
-    let reading : IsReading (g.W.World.files c.args.world.now) r.site (Ok c.in_ok-site-2.site) = c.in_ok-site-2.ensures.site in
-    let front : AppendsPrefix (g.K.Sink.taken c.args.out.now) (g.K.Sink.taken c.write_whole.new.sink) c.in_ok-work.work.alerts.items = rw c.deref-2.ensures.value at (front_of _ _ _ _ c.write_whole.ensures.bytes) in
-    let told : ReadsEach (g.W.World.files c.args.world.now) r.feeds c.in_ok-inputs.inputs.items = rw (← c.in_ok-site-2.ensures.files) c.in_ok-inputs.ensures.told in
-    let rose : Rose (g.K.Sink.faults c.args.out.now) (g.K.Sink.faults c.write_whole.new.sink) = search rules in
-    breaks (g.W.World.files c.args.world.now) (texts c.args.words.now) r c.in_ok-site-2.site c.in_ok-inputs.inputs.items c.in_ok-work.work
-    (change (g.W.World.faults c.args.world.now) (g.W.World.faults c.feeds_of.new.world))
-    (sunk (g.K.Sink.taken c.args.out.now) (g.K.Sink.taken c.write_whole.new.sink) (g.K.Sink.faults c.args.out.now) (g.K.Sink.faults c.write_whole.new.sink))
-    asked reading told (rw c.deref.ensures.value at c.in_ok-work.ensures.work) rose front
 
 pub returns-clause-ends : goal.returns-clause-ends
 returns-clause-ends g c =
@@ -62,8 +34,7 @@ returns-clause-ends g c =
     let asked : request (texts c.args.words.now) ≡ Some r = c.in_ok-site.ensures.asked in
     let reading : IsReading (g.W.World.files c.args.world.now) r.site (Ok c.in_ok-site-2.site) = c.in_ok-site-2.ensures.site in
     let told : ReadsEach (g.W.World.files c.args.world.now) r.feeds c.in_ok-inputs.inputs.items = rw (← c.in_ok-site-2.ensures.files) c.in_ok-inputs.ensures.told in
-    let all : Appends (g.K.Sink.taken c.args.out.now) (g.K.Sink.taken c.write_whole.new.sink) c.in_ok-work.work.alerts.items = search rules in
-    completes (g.W.World.files c.args.world.now) (texts c.args.words.now) r c.in_ok-site-2.site c.in_ok-inputs.inputs.items c.in_ok-work.work
+    ends_at_work (g.W.World.files c.args.world.now) (texts c.args.words.now) r c.in_ok-site-2.site c.in_ok-inputs.inputs.items c.work_of.result
     (change (g.W.World.faults c.args.world.now) (g.W.World.faults c.feeds_of.new.world))
-    (sunk (g.K.Sink.taken c.args.out.now) (g.K.Sink.taken c.write_whole.new.sink) (g.K.Sink.faults c.args.out.now) (g.K.Sink.faults c.write_whole.new.sink))
-    asked reading told (rw c.deref.ensures.value at c.in_ok-work.ensures.work) all
+    (sunk (g.K.Sink.taken c.args.out.now) (g.K.Sink.taken c.work_of.new.out) (g.K.Sink.faults c.args.out.now) (g.K.Sink.faults c.work_of.new.out))
+    asked reading told (rw c.deref.ensures.value at c.work_of.ensures.work) (rw c.deref.ensures.value at c.work_of.ensures.alerts) (rw c.deref.ensures.value at c.work_of.ensures.prefix) c.work_of.ensures.fault c.work_of.ensures.broken

@@ -11,7 +11,7 @@ returns-clause-headline g c =
     (sunk (g.K.Sink.taken c.args.sinks.now.out) (g.K.Sink.taken c.replay-ending.new.out) (g.K.Sink.faults c.args.sinks.now.out) (g.K.Sink.faults c.replay-ending.new.out)) in
     let report : Sunk = sunk (g.K.Sink.taken c.args.sinks.now.report) (g.K.Sink.taken c.finish.new.report) (g.K.Sink.faults c.args.sinks.now.report) (g.K.Sink.faults c.finish.new.report) in
     headline_of r c.replay-ending.result c.finish.result report c.replay-ending.ensures.ends c.finish.ensures.finished
-    (λ not_intact not_cut not_damaged. ap g.K.Sink.taken (c.replay-ending.ensures.unused not_intact not_cut not_damaged))
+    (λ none. ap g.K.Sink.taken (c.replay-ending.ensures.unused none))
 
 pub returns-clause-told : goal.returns-clause-told
 returns-clause-told g c =
