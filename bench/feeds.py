@@ -14,7 +14,10 @@ other categories between them. All tracks are tentative but for a few pairs that
 `told` gives records of which few count, since each track is told often: by several trackers, of which each
 has a feed. All tracks are tentative but for a few pairs that fly head on.
 
-All times are from the site's start to just before the end of its first cycle.
+`cycling` gives traffic over many cycles: that of `en_route`, each track told once in each cycle, and each turning
+round where it comes to the edge of its square or of its levels.
+
+All times of the others are from the site's start to just before the end of its first cycle.
 """
 
 from math import isqrt
@@ -89,9 +92,14 @@ def feed(count):
     return bytes(octets), eligible
 
 
+def reach_of(count):
+    """How far from its middle the square of so many tracks goes, in half-metres."""
+    return isqrt(400_000**2 * count // 1_000)
+
+
 def cruising_tracks(draws, count):
     """In the units of `placed_tracks`."""
-    reach = isqrt(400_000**2 * count // 1_000)
+    reach = reach_of(count)
     tracks = []
     while len(tracks) < count:
         vx, vy = draws.between(-1_040, 1_040), draws.between(-1_040, 1_040)
@@ -114,6 +122,48 @@ def en_route(count):
     numbers = shuffled_numbers(draws, count)
     return b"".join(block(track, numbers[i], START + i * PERIOD // count, False)
                     for i, track in enumerate(cruising_tracks(draws, count)))
+
+
+def folded(value, low, high):
+    """Where something is that goes on from `low` by so much and turns round at `high` and `low`, and whether it is on
+    its way back."""
+    turns, place = divmod(value - low, high - low)
+    return (high - place, True) if turns % 2 else (low + place, False)
+
+
+# A level in the steps that a rate takes in a cycle, of which 60 are 25 ft.
+STEPS = 30_720 // PERIOD
+
+
+def turned(track, cycle, reach):
+    """Where a track is in a cycle and how it moves, unless it turned round by then."""
+    moved = {"vx": track["vx"], "vy": track["vy"], "rate": track["rate"]}
+    places = {"x": (track["x"] + 2 * track["vx"] * cycle, -reach, reach, "vx"),
+              "y": (track["y"] + 2 * track["vy"] * cycle, -reach, reach, "vy"),
+              "level": (STEPS * track["level"] + track["rate"] * cycle, STEPS * 960, STEPS * 1_600, "rate")}
+    for name, (value, low, high, speed) in places.items():
+        moved[name], is_back = folded(value, low, high)
+        if is_back:
+            moved[speed] = -moved[speed]
+    moved["level"] //= STEPS
+    return moved
+
+
+def cycling(count, cycles):
+    """The feed's bytes: so many tracks, each told once in each of so many cycles, up to 31 m beside its place. None is
+    tentative."""
+    draws = Draws()
+    numbers = shuffled_numbers(draws, count)
+    tracks = cruising_tracks(draws, count)
+    reach = reach_of(count)
+    records = []
+    for cycle in range(cycles):
+        for i, track in enumerate(tracks):
+            seen = turned(track, cycle, reach)
+            seen["x"] += draws.below(64)
+            time = START + cycle * PERIOD + i * PERIOD // count
+            records.append(bytes(block(seen, numbers[i], time, False)[3:]))
+    return in_blocks(records)
 
 
 # What `mixed` makes its records of: the octets of the fixed items, the size of a part of the extended ones,

@@ -1,12 +1,11 @@
 //! The yardstick of the bench: what the proved program does, on the same words, in plain Rust with the
 //! standard library alone. It was written from the definitions and shares no code with the crates.
 //!
-//! Exit statuses: 0 done, 2 other words than `replay --site SITE FEED...` with one feed to eight, 3 a record that is
-//! later than the cycle, 4 a feed that can't be opened or read, 5 a write that failed, 7 done, and part of a feed was
-//! refused or cut off.
+//! Exit statuses: 0 done, 2 other words than `replay --site SITE FEED...` with one feed to eight, 4 a feed that can't
+//! be opened or read, 5 a write that failed, 7 done, and part of a feed was refused or cut off.
 
 use std::cmp::Reverse;
-use std::collections::HashMap;
+use std::collections::{BTreeMap, HashMap};
 use std::io::Write;
 use std::process::ExitCode;
 
@@ -22,11 +21,11 @@ const FEED_LIMIT: usize = 1 << 40;
 const SAC: u8 = 25;
 const SIC: u8 = 100;
 
-/// Times in ticks of 1/128 s: a day, when the cycle begins and ends, how old a row may be by then, the
-/// look-ahead, and how far ahead a conflict is urgent.
+/// Times in ticks of 1/128 s: a day, when the first cycle begins, how long each is, how old a row may be at its end,
+/// the look-ahead, and how far ahead a conflict is urgent.
 const DAY: i64 = 24 * 3_600 * 128;
 const START: i64 = 4_608_000;
-const END: i64 = START + 512;
+const PERIOD: i64 = 4 * 128;
 const TIMEOUT: i64 = 16 * 128;
 const LOOK: i64 = 120 * 128;
 const URGENT: i64 = 20 * 128;
@@ -48,15 +47,23 @@ const SPLIT: i64 = 29_000 / 25 * FEET_25;
 /// A pair beyond a limit of linear prediction is beyond that of current proximity too.
 const _: () = assert!(NOW_H <= LIMIT_H && NOW_V_LOW <= LIMIT_V_LOW && NOW_V_HIGH <= LIMIT_V_HIGH);
 
-/// The hit that begins an alert where none is urgent; in this cycle each hit is the first of its pair.
-const CONFIRMING_HIT: u32 = 2;
+/// How many hits in so many cycles begin an alert where none is urgent, and for how many cycles it is held after a hit.
+const CONFIRMING_HITS: u32 = 2;
+const CONFIRMING_CYCLES: u32 = 3;
+const HELD_CYCLES: u32 = 2;
+
+/// The newest cycles, one bit each: those in which hits are counted, those in which a hit holds an alert, and all in
+/// which a hit is remembered.
+const COUNTED: u32 = (1 << CONFIRMING_CYCLES) - 1;
+const HOLDING: u32 = (1 << (HELD_CYCLES + 1)) - 1;
+const REMEMBERED: u32 = COUNTED | HOLDING;
 
 /// The QNH correction in 25 ft, and the Mode 3/A codes that are left out.
 const QNH: i16 = 0;
 const CODES: [u16; 1] = [0o7000];
 
-const MESSAGE: usize = 39;
-const MESSAGES_IN_BLOCK: usize = (1_400 - 3) / MESSAGE;
+/// The octets of a block at most.
+const BLOCK_ROOM: usize = 1_400;
 
 /// How an item is laid out.
 enum Form {
@@ -153,6 +160,29 @@ struct Track {
 /// The track of the greatest rank of each key.
 type Table = HashMap<Key, Track>;
 
+/// A usable record of a feed: which cycle it was told in, and of which track.
+struct Told {
+    cycle: i64,
+    key: Key,
+    track: Track,
+}
+
+/// The records of a feed, read one after the other.
+struct Records<'a> {
+    /// What follows the present block, and what is left of its body.
+    rest: &'a [u8],
+    body: &'a [u8],
+    is_refused: bool,
+}
+
+/// The usable records of a feed that are still to be put into the table. One is read ahead.
+struct Cursor<'a> {
+    records: Records<'a>,
+    feed: u8,
+    latest: i64,
+    next: Option<Told>,
+}
+
 /// A track at the end of the cycle.
 struct Mover {
     key: Key,
@@ -176,9 +206,11 @@ struct Apart {
     dvz: i64,
 }
 
+/// The keys of a pair, the lower one first.
+type Pair = (Key, Key);
+
 struct Hit {
-    first_key: Key,
-    second_key: Key,
+    pair: Pair,
     first: i64,
     closest: i64,
     chs: i64,
@@ -187,6 +219,36 @@ struct Hit {
     mvs: i64,
     is_current: bool,
     is_urgent: bool,
+}
+
+/// What is remembered of a pair: its hits, the newest cycle in the lowest bit, and its alert.
+#[derive(Default)]
+struct Alert {
+    hits: u32,
+    is_on: bool,
+    number: u16,
+}
+
+/// The pairs that were hit in the newest cycles, and the number of the next alert.
+#[derive(Default)]
+struct Book {
+    alerts: BTreeMap<Pair, Alert>,
+    next_number: u16,
+}
+
+/// The messages of a cycle in blocks, and where the last block begins.
+#[derive(Default)]
+struct Blocks {
+    bytes: Vec<u8>,
+    last: usize,
+}
+
+/// How an alert stands, as its message tells it.
+#[derive(Clone, Copy)]
+enum Status {
+    First = 2,
+    Continuing = 4,
+    Ended = 6,
 }
 
 fn word(octets: &[u8]) -> u16 {
@@ -306,11 +368,11 @@ impl Track {
     }
 
     /// The track moved on to the end of the cycle, where it is a row that the net looks at.
-    fn mover(&self, key: Key) -> Option<Mover> {
-        let age = END - self.at;
-        if !self.is_eligible || age > TIMEOUT {
+    fn mover(&self, key: Key, time: i64) -> Option<Mover> {
+        if !self.is_eligible {
             return None;
         }
+        let age = time - self.at;
         let (vx, vy, vz) = (i64::from(self.vx), i64::from(self.vy), i64::from(self.rate));
         Some(Mover {
             key,
@@ -324,52 +386,95 @@ impl Track {
     }
 }
 
-/// Hands on the records of the blocks of category 62 in order, and tells whether nothing was refused and
-/// the feed ends with its last block.
-fn read_feed(mut feed: &[u8], mut each: impl FnMut(Record)) -> bool {
-    let mut clean = true;
-    while let [category, high, low, ..] = *feed {
-        let length = usize::from(u16::from_be_bytes([high, low]));
-        if length < 3 || length > feed.len() {
-            break;
+impl<'a> Records<'a> {
+    fn new(feed: &'a [u8]) -> Self {
+        Self { rest: feed, body: &[], is_refused: false }
+    }
+
+    /// Goes on to the next block of category 62 that isn't empty.
+    fn next_block(&mut self) -> Option<()> {
+        while self.body.is_empty() {
+            let [category, high, low, ..] = *self.rest else { return None };
+            let length = usize::from(u16::from_be_bytes([high, low]));
+            if length < 3 || length > self.rest.len() {
+                return None;
+            }
+            let (block, rest) = self.rest.split_at(length);
+            self.rest = rest;
+            if category == 62 {
+                self.body = &block[3..];
+            }
         }
-        let (block, next) = feed.split_at(length);
-        feed = next;
-        let mut body = if category == 62 { &block[3..] } else { &[] };
-        while !body.is_empty() {
-            let Some((record, rest)) = read_record(body) else {
-                clean = false;
-                break;
-            };
-            each(record);
-            body = rest;
+        Some(())
+    }
+
+    /// Once all were read: nothing was refused, and the feed ends with its last block.
+    fn is_clean(&self) -> bool {
+        !self.is_refused && self.rest.is_empty()
+    }
+}
+
+impl Iterator for Records<'_> {
+    type Item = Record;
+
+    fn next(&mut self) -> Option<Record> {
+        loop {
+            self.next_block()?;
+            if let Some((record, rest)) = read_record(self.body) {
+                self.body = rest;
+                return Some(record);
+            }
+            self.is_refused = true;
+            self.body = &[];
         }
     }
-    clean && feed.is_empty()
 }
 
-/// Puts a feed's tracks into the table, and tells whether the feed was read clean, and the latest time in it.
-/// Feeds are put in their order.
-fn put_feed(table: &mut Table, feed: u8, octets: &[u8]) -> (bool, i64) {
-    let mut latest = START;
-    let clean = read_feed(octets, |record| {
-        let Some((key, time)) = record.usable() else { return };
-        // The time of day is that within twelve hours of the latest so far.
-        let earliest = latest - DAY / 2;
-        let at = earliest + (time - earliest).rem_euclid(DAY);
-        latest = latest.max(at);
-        let track = record.track(at, feed);
-        let kept = table.entry(key).or_insert(track);
-        if track.rank() >= kept.rank() {
-            *kept = track;
+impl<'a> Cursor<'a> {
+    fn new(feed: u8, octets: &'a [u8]) -> Self {
+        let records = Records::new(&octets[..octets.len().min(FEED_LIMIT)]);
+        let mut cursor = Self { records, feed, latest: START, next: None };
+        cursor.next = cursor.read();
+        cursor
+    }
+
+    /// The next usable record, with the time of day taken within twelve hours of the latest so far.
+    fn read(&mut self) -> Option<Told> {
+        loop {
+            let record = self.records.next()?;
+            let Some((key, time)) = record.usable() else { continue };
+            let earliest = self.latest - DAY / 2;
+            let at = earliest + (time - earliest).rem_euclid(DAY);
+            self.latest = self.latest.max(at);
+            let cycle = (self.latest - START) / PERIOD;
+            return Some(Told { cycle, key, track: record.track(at, self.feed) });
         }
-    });
-    (clean, latest)
+    }
+
+    /// The next record, if it was told by the end of a cycle.
+    fn next_due(&mut self, cycle: i64) -> Option<Told> {
+        self.next.as_ref().filter(|told| told.cycle <= cycle)?;
+        let following = self.read();
+        std::mem::replace(&mut self.next, following)
+    }
 }
 
-/// The rows that the net looks at, in key order.
-fn movers(table: &Table) -> Vec<Mover> {
-    let mut movers = table.iter().filter_map(|(key, track)| track.mover(*key)).collect::<Vec<_>>();
+/// Puts the records that were told by the end of a cycle into the table. Feeds are put in their order.
+fn put_due(table: &mut Table, cursors: &mut [Cursor], cycle: i64) {
+    for cursor in cursors {
+        while let Some(Told { key, track, .. }) = cursor.next_due(cycle) {
+            let kept = table.entry(key).or_insert(track);
+            if track.rank() >= kept.rank() {
+                *kept = track;
+            }
+        }
+    }
+}
+
+/// The rows that the net looks at, in key order, at the end of a cycle. Tracks that have timed out are forgotten.
+fn movers(table: &mut Table, time: i64) -> Vec<Mover> {
+    table.retain(|_, track| time - track.at <= TIMEOUT);
+    let mut movers = table.iter().filter_map(|(key, track)| track.mover(*key, time)).collect::<Vec<_>>();
     movers.sort_unstable_by_key(|mover| mover.key);
     movers
 }
@@ -475,8 +580,7 @@ fn examine(a: &Mover, b: &Mover) -> Option<Hit> {
     let horizontal = |tick| apart.squared_distance(tick).isqrt() / HALF_METRE;
     let vertical = |tick| apart.height(tick) / FEET_25;
     Some(Hit {
-        first_key: a.key,
-        second_key: b.key,
+        pair: (a.key, b.key),
         first,
         closest,
         chs: horizontal(0).min(0xFF_FFFF),
@@ -498,41 +602,78 @@ fn hits(movers: &[Mover]) -> Vec<Hit> {
     hits
 }
 
-impl Hit {
-    fn begins_alert(&self) -> bool {
-        self.is_urgent || CONFIRMING_HIT == 1
+impl Book {
+    /// The blocks of what the next cycle, with these hits in key order, tells of alerts.
+    fn cycle(&mut self, hits: &[Hit], time: i64) -> Blocks {
+        for hit in hits {
+            self.alerts.entry(hit.pair).or_default();
+        }
+        let (mut hits, mut blocks) = (hits.iter().peekable(), Blocks::default());
+        self.alerts.retain(|pair, alert| {
+            let hit = hits.next_if(|hit| hit.pair == *pair);
+            if let Some(status) = alert.update(hit, &mut self.next_number) {
+                blocks.push(&message(status, alert.number, *pair, hit, time));
+            }
+            alert.hits != 0
+        });
+        blocks
     }
 }
 
-fn message(number: usize, hit: &Hit) -> Vec<u8> {
-    let [sac, sic, first @ ..] = hit.first_key.to_be_bytes();
-    let [second_sac, second_sic, second @ ..] = hit.second_key.to_be_bytes();
-    let mut bytes = vec![0xDD, 0x91, 0x42, SAC, SIC, 7];
-    bytes.extend(&(END as u32).to_be_bytes()[1..]);
-    bytes.extend((number as u16).to_be_bytes());
-    bytes.push(2);
-    bytes.extend(first);
-    bytes.push(0xFC);
-    for figure in [hit.first, hit.closest, hit.chs] {
-        bytes.extend(&(figure as u32).to_be_bytes()[1..]);
+impl Alert {
+    /// Takes the hit of the newest cycle, and tells how the alert stands, if it is on or was.
+    fn update(&mut self, hit: Option<&Hit>, next_number: &mut u16) -> Option<Status> {
+        self.hits = (self.hits << 1 | u32::from(hit.is_some())) & REMEMBERED;
+        let begins = hit.is_some_and(|hit| hit.is_urgent || (self.hits & COUNTED).count_ones() >= CONFIRMING_HITS);
+        let was_on = self.is_on;
+        self.is_on = begins || was_on && self.hits & HOLDING != 0;
+        match (was_on, self.is_on) {
+            (false, false) => None,
+            (false, true) => {
+                self.number = *next_number;
+                *next_number = next_number.wrapping_add(1);
+                Some(Status::First)
+            }
+            (true, true) => Some(Status::Continuing),
+            (true, false) => Some(Status::Ended),
+        }
     }
-    for figure in [hit.mhs, hit.cvs, hit.mvs] {
-        bytes.extend((figure as u16).to_be_bytes());
+}
+
+fn message(status: Status, number: u16, pair: Pair, hit: Option<&Hit>, time: i64) -> Vec<u8> {
+    let [sac, sic, first @ ..] = pair.0.to_be_bytes();
+    let [second_sac, second_sic, second @ ..] = pair.1.to_be_bytes();
+    let mut bytes = vec![0xDD, if hit.is_some() { 0x91 } else { 0x81 }, 0x42, SAC, SIC, 7];
+    bytes.extend(&((time % DAY) as u32).to_be_bytes()[1..]);
+    bytes.extend(number.to_be_bytes());
+    bytes.push(status as u8);
+    bytes.extend(first);
+    if let Some(hit) = hit {
+        bytes.push(0xFC);
+        for figure in [hit.first, hit.closest, hit.chs] {
+            bytes.extend(&(figure as u32).to_be_bytes()[1..]);
+        }
+        for figure in [hit.mhs, hit.cvs, hit.mvs] {
+            bytes.extend((figure as u16).to_be_bytes());
+        }
     }
     bytes.extend(second);
-    let flags = u8::from(hit.is_urgent) | u8::from(hit.is_current) << 1;
+    let flags = hit.map_or(0, |hit| u8::from(hit.is_urgent) | u8::from(hit.is_current) << 1);
     bytes.extend([7, 7, sac, sic, second_sac, second_sic, flags]);
     bytes
 }
 
-fn pack(messages: &[Vec<u8>]) -> Vec<u8> {
-    let mut bytes = Vec::new();
-    for block in messages.chunks(MESSAGES_IN_BLOCK) {
-        bytes.push(4);
-        bytes.extend(((3 + block.len() * MESSAGE) as u16).to_be_bytes());
-        bytes.extend(block.concat());
+impl Blocks {
+    /// Puts a message into the last block, or into a new one where that has no room for it.
+    fn push(&mut self, message: &[u8]) {
+        if self.bytes.is_empty() || self.bytes.len() - self.last + message.len() > BLOCK_ROOM {
+            self.last = self.bytes.len();
+            self.bytes.extend([4, 0, 0]);
+        }
+        self.bytes.extend(message);
+        let length = (self.bytes.len() - self.last) as u16;
+        self.bytes[self.last + 1..self.last + 3].copy_from_slice(&length.to_be_bytes());
     }
-    bytes
 }
 
 /// Ok with the status of a run whose work is done, else the status that ends it.
@@ -542,23 +683,21 @@ fn replay(words: &[String]) -> Result<u8, u8> {
     if command != "replay" || option != "--site" || names.is_empty() || names.len() > MOST_FEEDS {
         return Err(2);
     }
-    let mut table = Table::new();
-    let (mut is_clean, mut latest) = (true, START);
-    for (feed, name) in (0..).zip(names) {
-        let mut octets = std::fs::read(name).map_err(|_| 4)?;
-        octets.truncate(FEED_LIMIT);
-        let (clean, latest_here) = put_feed(&mut table, feed, &octets);
-        is_clean &= clean;
-        latest = latest.max(latest_here);
-    }
-    if latest >= END {
-        return Err(3);
-    }
-    let hits = hits(&movers(&table));
-    let alerts = hits.iter().filter(|hit| hit.begins_alert());
-    let messages = alerts.enumerate().map(|(i, hit)| message(i, hit)).collect::<Vec<_>>();
+    let feeds = names.iter().map(std::fs::read).collect::<Result<Vec<_>, _>>().map_err(|_| 4)?;
+    let mut cursors = (0..).zip(&feeds).map(|(feed, octets)| Cursor::new(feed, octets)).collect::<Vec<_>>();
+    let (mut table, mut book) = (Table::new(), Book::default());
     let mut out = std::io::stdout().lock();
-    out.write_all(&pack(&messages)).and_then(|()| out.flush()).map_err(|_| 5)?;
+    for cycle in 0.. {
+        if cursors.iter().all(|cursor| cursor.next.is_none()) {
+            break;
+        }
+        let time = START + (cycle + 1) * PERIOD;
+        put_due(&mut table, &mut cursors, cycle);
+        let hits = hits(&movers(&mut table, time));
+        let blocks = book.cycle(&hits, time);
+        out.write_all(&blocks.bytes).and_then(|()| out.flush()).map_err(|_| 5)?;
+    }
+    let is_clean = cursors.iter().all(|cursor| cursor.records.is_clean());
     Ok(if is_clean { 0 } else { 7 })
 }
 
