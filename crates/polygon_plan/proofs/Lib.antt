@@ -1,0 +1,9 @@
+pub mod Counts
+pub mod Edges
+pub mod Firsts
+pub mod Fits
+pub mod Lines
+pub mod Places
+pub mod Products
+pub mod Round
+pub mod Turns
