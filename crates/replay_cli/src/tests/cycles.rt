@@ -64,11 +64,8 @@ pub fn recorded(alloc: Global, failing_writes: &[u64]) -> Result<Ran, AllocError
         time: Some(36_005 * 128),
         ..HEAD_ON
     };
-    let feed = joined(
-        alloc,
-        &[&FIRST, &SECOND, &ended.block(alloc)?, &far.block(alloc)?],
-    )?;
-    let other = older.block(alloc)?;
+    let (ended, far, other) = (ended.block(alloc)?, far.block(alloc)?, older.block(alloc)?);
+    let feed = joined(alloc, &[&FIRST, &SECOND, &ended, &far])?;
     let outside = Outside {
         other: &other,
         failing_writes,
@@ -112,7 +109,8 @@ fn six_hours_without_a_record(rt: HostRuntime) -> Result<(), Fail> {
         time: Some(0x70_8100),
         ..HEAD_ON
     };
-    let feed = joined(alloc, &[&FIRST, &SECOND, &late.block(alloc)?])?;
+    let late = late.block(alloc)?;
+    let feed = joined(alloc, &[&FIRST, &SECOND, &late])?;
     let ran = replayed(alloc, Outside::of(&feed))?;
     expect(&rt, &ran, 0, &HELD, "six hours");
     let report = "cycles 5401
