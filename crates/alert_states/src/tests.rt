@@ -333,7 +333,7 @@ fn greatest_values(rt: HostRuntime) -> Result<(), Fail> {
     Ok(())
 }
 
-/// A hit in every second cycle keeps an alert on.
+/// A hit in every second cycle keeps an alert on: here for a day of cycles of four seconds.
 #[test]
 fn every_second_cycle(rt: HostRuntime) -> Result<(), Fail> {
     let mut book = book_of(rt.alloc(), 2, 3, 1);
@@ -343,7 +343,7 @@ fn every_second_cycle(rt: HostRuntime) -> Result<(), Fail> {
         without_hit(PAIR, Status::Continuing, 0),
         with_hit(PAIR, Status::Continuing, 0),
     ];
-    for _ in 0..100 {
+    for _ in 0..10_800 {
         expect_rows(&rt, rt.alloc(), &mut book, &rows)?;
     }
     Ok(())
