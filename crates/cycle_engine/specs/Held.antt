@@ -4,6 +4,7 @@ use Rattle.alert_states.specs.Held as books
 use Rattle.alert_states.specs.declared.event.Hit.{Hit}
 use Rattle.cat004_write.specs.Blocks.{Packing, Packs}
 use Rattle.site_params.specs.Ranges.{IsSite}
+use Rattle.site_params.specs.declared.airspace.Volume.{Volume}
 use Rattle.site_params.specs.declared.site.Site.{Site}
 use Rattle.track_table.specs.declared.table.Frozen.{Frozen}
 use Rattle.track_table.specs.Proper.{IsProper}
@@ -34,9 +35,10 @@ pub record HasPast (book : books.Held) : Type 0 where
   pub past : List (List Hit)
   pub stands : books.StandsFor book past
 
--- an engine between cycles: of a site in range, with a book of some cycles, and with no message left over
-pub record IsReady (site : Site) (book : books.Held) (blocks : Packing) : Type 0 where
+-- an engine between cycles: of a site in range, with the areas of its volumes and a book of some cycles, and with no message left over
+pub record IsReady (site : Site) (areas : List Volume) (book : books.Held) (blocks : Packing) : Type 0 where
   pub range : IsSite site
+  pub volumes : areas ≡ site.volumes
   pub confirm : book.confirm ≡ site.confirm
   pub some : HasPast book
   pub packed : Packs blocks []

@@ -5,10 +5,12 @@ ghost use Rattle.site_params.specs.Ranges.{IsSite};
 ghost use Rattle.cycle_engine.specs.Held.{IsTableOf, StandsFor};
 ghost use Rattle.cycle_engine.specs.Outcomes.{Answers, Keeps, Writes, WritesPrefix};
 
+use crate::NoMemory;
 use crate::messages::{pack_events, tell_events};
+use airspace_volumes::Area;
 use alert_states::{Book, Event};
 use cat004_write::Packer;
-use cycle_workers::hits_one;
+use cycle_workers::{areas_of, hits_one};
 use outside_io::{Failed, Sink, Steps, write_whole};
 use site_params::Site;
 use std::alloc::{AllocError, Global};
@@ -59,6 +61,8 @@ impl From<Failed> for CycleFault {
 #[derive(Drop)]
 pub struct Engine<'a> {
     site: &'a Site,
+    /// Those of the site's volumes.
+    areas: Vec<Area<'a>>,
     book: Book,
     packer: Packer,
     /// Room for the events of the next cycle; those of the last stand in it.
@@ -74,24 +78,25 @@ impl<'a> Model for Engine<'a> {
 
     ghost view = { λ e. record { site = e.site.now; book = e.book; next = e.next } };
 
-    ghost invariant = { λ e. IsReady e.site.now e.book e.packer.blocks };
+    ghost invariant = { λ e. IsReady e.site.now e.areas.items e.book e.packer.blocks };
 }
 
 impl<'a> Engine<'a> {
     /// An engine before the first cycle.
-    pub fn new(alloc: Global, site: &'a Site) -> Engine<'a>
+    pub fn new(alloc: Global, site: &'a Site) -> Result<Engine<'a>, NoMemory>
         requires { IsSite site.now }
-        ensures site { result.site ≡ site.now }
-        ensures stands { StandsFor result [] }
+        ensures site { IfOk result (λ engine. engine.site ≡ site.now) }
+        ensures stands { IfOk result (λ engine. StandsFor engine []) }
     {
-        Engine {
+        Ok(Engine {
             site,
+            areas: areas_of(alloc, site)?,
             book: Book::new(alloc, site.confirm),
             packer: Packer::new(alloc),
             events: Vec::new(alloc),
             next: 0,
             alloc,
-        }
+        })
     }
 
     /// The number of the cycle that is to be made next; cycles are numbered from 0.
@@ -131,7 +136,7 @@ impl<'a> Engine<'a> {
         ensures louder { K.faults sink.old ≤ K.faults sink.new }
         ensures later { steps.old ≤ steps.new }
     {
-        let found = hits_one(self.alloc, f, self.site, steps)?;
+        let found = hits_one(self.alloc, f, self.site, &self.areas, steps)?;
         let firsts = tell_events(
             &mut self.book,
             &mut self.packer,

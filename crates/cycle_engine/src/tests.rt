@@ -270,7 +270,7 @@ fn counted<L: Ledger>(
     requires site { IsSite site.now }
     requires table { IsTableOf site.now 0 table.now }
 {
-    let mut engine = Engine::new(alloc, site);
+    let mut engine = Engine::new(alloc, site)?;
     let mut steps = Steps::<L>::new(blank);
     made(rt, &mut engine, table, sink, &mut steps)
 }
@@ -302,7 +302,7 @@ fn expect_cycles<L: Ledger>(
     requires some { 0 < blank.parts }
 {
     let site = site_of(rt, alloc)?;
-    let mut engine = Engine::new(alloc, &site);
+    let mut engine = Engine::new(alloc, &site)?;
     let mut steps = Steps::<L>::new(blank);
     for cycle in cycles {
         let table = table_of(rt, alloc, &site, engine.next(), cycle.rows)?;

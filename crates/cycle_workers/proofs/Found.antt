@@ -1,6 +1,7 @@
 -- What a function finds of the elements of a list.
 use Rattle.std.proofs.Common.{◌≡◌, ℕ, ◌+◌, ◌<◌, List, [], ◌∷◌, ◌++◌, map, length, take, get_or, Option, Some, None, refl, ap, ◌∙◌}
 use Rattle.std.specs.List.{AllByRecursion, cons_option, filter_map}
+use Rattle.std.specs.Option.{option_and_then}
 use Rattle.std.specs.List.Sorted.{IsStrictlySortedBy}
 use Rattle.std.specs.declared.cmp.Ordering.{Ordering}
 use Rattle.std.specs.declared.cmp.Ordering.TheVariants.{Less}
@@ -16,6 +17,16 @@ found_more f xs i x y before found =
 pub none_more : {X Y : Type 0} (f : X → Option Y) (xs : List X) (i : ℕ) (x : X) → i < length xs → f (get_or xs i x) ≡ None → filter_map f (take (i + 1) xs) ≡ filter_map f (take i xs)
 none_more f xs i x before none =
     ap (filter_map f) (take_more xs i x before) ∙ filter_map-append f (take i xs) (get_or xs i x ∷ []) ∙ rw none (append-nil (filter_map f (take i xs)))
+
+-- ---- of what another function finds
+
+found_again_at : {Y Z : Type 0} (g : Y → Option Z) (o : Option Y) (rest : List Y) → filter_map g (cons_option o rest) ≡ cons_option (option_and_then g o) (filter_map g rest)
+found_again_at g None rest = refl
+found_again_at g (Some y) rest = refl
+
+pub found_again : {X Y Z : Type 0} (f : X → Option Y) (g : Y → Option Z) (xs : List X) → filter_map g (filter_map f xs) ≡ filter_map (λ x. option_and_then g (f x)) xs
+found_again f g [] = refl
+found_again f g (x ∷ xs) = found_again_at g (f x) (filter_map f xs) ∙ ap (cons_option (option_and_then g (f x))) (found_again f g xs)
 
 -- ---- of all
 

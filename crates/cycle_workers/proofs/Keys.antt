@@ -30,7 +30,7 @@ below x y less = ranked x y Less (sym less)
 same : (x y : ℕ) → nat_cmp x y ≡ Equal → x ≡ y
 same x y equal = ranked x y Equal (sym equal)
 
-less : (x y : ℕ) → x < y → nat_cmp x y ≡ Less
+pub less : (x y : ℕ) → x < y → nat_cmp x y ≡ Less
 less x y lower = grind (arith, nat_tests)
 
 rises_at : (a b : TrackKey) → IsKey a → IsKey b → (o p : Ordering) → nat_cmp a.sac b.sac ≡ o → nat_cmp a.sic b.sic ≡ p → ordering_then o (ordering_then p (nat_cmp a.number b.number)) ≡ Less → number_of a < number_of b

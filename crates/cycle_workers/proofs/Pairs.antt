@@ -17,9 +17,9 @@ countable movers few =
     omega arith
 
 -- any
-none : Mover
-none = record { key = record { sac = 0; sic = 0; number = 0 }; motion = record { x = pos 0; y = pos 0; vx = pos 0; vy = pos 0; z = pos 0; alt = pos 0; vz = pos 0 }; set = 0 }
+abbrev pub no_mover : Mover
+no_mover = record { key = record { sac = 0; sic = 0; number = 0 }; motion = record { x = pos 0; y = pos 0; vx = pos 0; vy = pos 0; z = pos 0; alt = pos 0; vz = pos 0 }; set = 0 }
 
 -- a row less
 pub pairs_left : (movers : List Mover) (i : ℕ) → i < length movers → count_pairs (drop i movers) ≡ length (drop (i + 1) movers) + count_pairs (drop (i + 1) movers)
-pairs_left movers i before = ap count_pairs (drop_more movers i none before)
+pairs_left movers i before = ap count_pairs (drop_more movers i no_mover before)

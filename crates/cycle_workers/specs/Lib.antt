@@ -1,3 +1,4 @@
 pub mod Eligible
 pub mod Hits
 pub mod Movers
+pub mod Volumes

@@ -1,8 +1,10 @@
--- What the nets rely on of eligible rows (this project's profile).
-use Rattle.std.specs.Prelude.{◌<◌, List, length, All}
+-- What the nets rely on of tables and of eligible rows (this project's profile).
+use Rattle.std.specs.Prelude.{◌<◌, ◌≤ℤ◌, List, length, All, pos}
 use Rattle.site_params.specs.declared.site.Site.{Site}
 use Rattle.track_motion.specs.declared.track.TrackKey.{TrackKey}
 use Rattle.track_motion.specs.Motions.{InRange}
+use Rattle.track_table.specs.declared.table.Frozen.{Frozen}
+use Rattle.track_table.specs.Proper.{IsProper}
 use Rattle.cycle_workers.specs.declared.movers.Mover.{Mover}
 
 -- a key in two octets and 16 bits
@@ -19,3 +21,8 @@ pub record IsMover (site : Site) (m : Mover) : Type 0 where
 
 abbrev pub AreMovers : Site → List Mover → Type 0
 AreMovers site movers = All (IsMover site) movers
+
+-- a table that all nets can look at: it is proper, and its time counts on from a midnight
+pub record IsCycleTable (frozen : Frozen) : Type 0 where
+  pub proper : IsProper frozen
+  pub time : pos 0 ≤ℤ frozen.time

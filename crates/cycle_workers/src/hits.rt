@@ -4,13 +4,14 @@ ghost use Rattle.std.specs.List.{filter_map};
 ghost use Rattle.alert_states.specs.Figures.{AreInRoom};
 ghost use Rattle.alert_states.specs.Subjects.{AreInOrder};
 ghost use Rattle.site_params.specs.Ranges.{IsSite};
-ghost use Rattle.track_table.specs.Proper.{IsProper};
 ghost use Rattle.cycle_workers.specs.Hits.{count_examined, count_pairs, hit_of, hits_of, stca_hits};
-ghost use Rattle.cycle_workers.specs.Movers.{AreMovers, IsMover};
+ghost use Rattle.cycle_workers.specs.Movers.{AreMovers, IsCycleTable, IsMover};
 
 use crate::NoMemory;
-use crate::movers::{Mover, movers_of};
+use crate::movers::{Mover, enabled, watched};
 use crate::pair::examine_pair;
+use crate::volumes::add_volume_hits;
+use airspace_volumes::Area;
 use alert_states::{Hit, Net};
 use outside_io::Steps;
 use site_params::Site;
@@ -77,15 +78,17 @@ fn pair_hits<L: Ledger>(
 }
 
 /// All hits of a table in the order of subjects. It examines each pair of rows that are eligible for STCA once,
-/// in one step.
+/// in one step. The areas are those of the site's volumes, made once for all cycles.
 pub fn hits_one<L: Ledger>(
     alloc: Global,
     f: &Frozen,
     site: &Site,
+    areas: &[Area<'_>],
     steps: &mut Steps<L>,
 ) -> Result<Hits, NoMemory>
-    requires table { IsProper f.now }
+    requires table { IsCycleTable f.now }
     requires site { IsSite site.now }
+    requires areas { areas.now ≡ site.now.volumes }
     ensures hits { IfOk result (λ found. found.hits.items ≡ hits_of site.now f.now) }
     ensures order { IfOk result (λ found. AreInOrder found.hits.items) }
     ensures room { IfOk result (λ found. AreInRoom found.hits.items) }
@@ -93,6 +96,10 @@ pub fn hits_one<L: Ledger>(
     ensures counted { IfOk result (λ found. steps.new ≡ steps.old + found.examined) }
     ensures later { steps.old ≤ steps.new }
 {
-    let movers = movers_of(alloc, f, site, Net::Stca)?;
-    pair_hits(alloc, site, &movers, steps)
+    let all = watched(alloc, f, site)?;
+    let pairs = enabled(alloc, site, Net::Stca, &all)?;
+    let rows = enabled(alloc, site, Net::Apw, &all)?;
+    let mut found = pair_hits(alloc, site, &pairs, steps)?;
+    add_volume_hits(alloc, site, areas, f.time, &rows, &mut found.hits)?;
+    Ok(found)
 }

@@ -4,9 +4,12 @@
 mod hits;
 mod movers;
 mod pair;
+mod regions;
+mod volumes;
 
 pub use hits::{Hits, hits_one};
 pub use movers::{Mover, eligible};
+pub use volumes::areas_of;
 
 /// Want of memory.
 pub type NoMemory = std::alloc::AllocError;

@@ -6,9 +6,9 @@ ghost use Rattle.track_motion.specs.Keys.{key_cmp};
 ghost use Rattle.track_motion.specs.declared.motion.TheConstants.{LONGEST_AGE};
 ghost use Rattle.track_motion.specs.Motions.{CanMove};
 ghost use Rattle.track_motion.specs.Tracks.{IsHeight, IsInPlane, IsLevelled};
-ghost use Rattle.track_table.specs.Proper.{IsProper};
+ghost use Rattle.cycle_workers.specs.Movers.{IsCycleTable};
 
-use crate::{Hits, Mover, NoMemory, eligible, hits_one};
+use crate::{Hits, Mover, NoMemory, areas_of, eligible, hits_one};
 use alert_states::{CURRENT_PROXIMITY, Hit, HitData, Net, Subject, URGENT};
 use outside_io::Steps;
 use site_params::{Site, SiteFault, read_site};
@@ -19,6 +19,8 @@ use std::sync::ledger::{Blank, Ledger};
 use std::test::Fail;
 use track_motion::{Motion, Stamped, Track, TrackKey};
 use track_table::{Frozen, Rows};
+
+mod airspace;
 
 /// 9,260 m and 800 or 1,000 ft ahead, 4,630 m and 500 or 600 ft now; tracks of code 7000 are left out.
 const SITE_A: &str = "sac = 25
@@ -159,7 +161,7 @@ fn are_movable(rows: &[Stamped], time: i64) -> bool
 
 /// The table of these tracks.
 fn table_of(rt: &impl Abort, alloc: Global, tracks: &[Track]) -> Result<Frozen, NoMemory>
-    ensures { IfOk result (λ frozen. IsProper frozen) }
+    ensures { IfOk result (λ frozen. IsCycleTable frozen) }
 {
     let mut rows = Vec::new(alloc);
     for track in tracks {
@@ -189,7 +191,7 @@ fn site_of(rt: &impl Abort, alloc: Global, text: &str) -> Result<Site, NoMemory>
 
 /// The hits, with a counter that ends at the number of pairs that were examined.
 fn found(alloc: Global, frozen: &Frozen, site: &Site) -> Result<Hits, NoMemory>
-    requires table { IsProper frozen.now }
+    requires table { IsCycleTable frozen.now }
     requires site { IsSite site.now }
 {
     counted::<Brand>(Blank::new(1), alloc, frozen, site)
@@ -204,11 +206,12 @@ fn counted<L: Ledger>(
     requires name { blank.name ≡ L.name }
     requires parts { blank.parts ≡ L.parts }
     requires some { 0 < blank.parts }
-    requires table { IsProper frozen.now }
+    requires table { IsCycleTable frozen.now }
     requires site { IsSite site.now }
 {
     let mut steps = Steps::<L>::new(blank);
-    let found = hits_one(alloc, frozen, site, &mut steps)?;
+    let areas = areas_of(alloc, site)?;
+    let found = hits_one(alloc, frozen, site, &areas, &mut steps)?;
     end_at(steps, found.examined);
     Ok(found)
 }
@@ -226,8 +229,22 @@ fn expect_hits(
     examined: u64,
 ) -> Result<(), NoMemory> {
     let site = site_of(rt, alloc, SITE_A)?;
+    expect_hits_in(rt, alloc, &site, tracks, hits, examined)
+}
+
+/// The same at a site.
+fn expect_hits_in(
+    rt: &impl Abort,
+    alloc: Global,
+    site: &Site,
+    tracks: &[Track],
+    hits: &[Hit],
+    examined: u64,
+) -> Result<(), NoMemory>
+    requires { IsSite site.now }
+{
     let frozen = table_of(rt, alloc, tracks)?;
-    let found = found(alloc, &frozen, &site)?;
+    let found = found(alloc, &frozen, site)?;
     assert_eq!(rt; found.hits.as_slice(), hits);
     assert_eq!(rt; found.examined, examined);
     Ok(())
@@ -386,7 +403,7 @@ fn nine_rows_head_on(rt: HostRuntime) -> Result<(), Fail> {
 
 /// The hits, taken once more where memory was refused.
 fn found_again(alloc: Global, frozen: &Frozen, site: &Site) -> Result<Hits, NoMemory>
-    requires table { IsProper frozen.now }
+    requires table { IsCycleTable frozen.now }
     requires site { IsSite site.now }
 {
     match found(alloc, frozen, site) {

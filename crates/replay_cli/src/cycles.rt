@@ -126,7 +126,7 @@ pub fn make_cycles<K: Sink, L: Ledger>(
     windows_of_a_feed();
     let mut cursors = cursors_of(alloc, site, inputs)?;
     let mut table = Table::new(alloc, site.start, site.period, site.timeout);
-    let mut engine = Engine::new(alloc, site);
+    let mut engine = Engine::new(alloc, site)?;
     let mut made = Made {
         cycles: 0,
         firsts: 0,

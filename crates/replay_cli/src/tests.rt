@@ -1,5 +1,6 @@
 //! The top call over a world in memory: whole output and status.
 
+mod airspace;
 mod alerts;
 mod blocks;
 mod cycles;

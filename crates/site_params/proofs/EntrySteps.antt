@@ -57,8 +57,8 @@ module _ {A : Type 0} (read : Place → Reading A) (number : ℕ) (key : List �
       ap (each (entry read number key tables)) (sym whole) ∙ up_to.read_so
 
 -- one more entry, where the tables are what g sees of a list
-module _ {A X : Type 0} (read : Place → Reading A) (number : ℕ) (key : List ℕ) (g : X → Members) (xs : List X)
-    (i : ℕ) (names : List (List ℕ)) (found : List A) (x : X) (within : i < length xs) (is : x ≡ get_or xs i x)
+module _ {A X : Type 0} {read : Place → Reading A} {number : ℕ} {key : List ℕ} (g : X → Members) (xs : List X)
+    {i : ℕ} {names : List (List ℕ)} {found : List A} {x : X} (within : i < length xs) (is : x ≡ get_or xs i x)
     (up_to : IsReadUpTo read number key (map g xs) i names found) where
   abbrev tables : List Members
   tables = map g xs

@@ -1,2 +1,4 @@
 pub mod Each
 pub mod EntrySteps
+pub mod Units
+pub mod Positions

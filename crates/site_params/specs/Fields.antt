@@ -1,17 +1,20 @@
 -- The fields of a site file in the order in which they are checked, each with its number, its key, its kind and its range (this
 -- project's profile).
-use Rattle.std.specs.Prelude.{codes as key, ℕ, ℤ, pos, Bool, List, [], ◌∷◌, Ok, Err, unwrap_or, is_some, if◌then◌else◌}
+use Rattle.std.specs.Prelude.{codes as key, ℕ, ℤ, pos, Bool, List, [], ◌∷◌, map, Ok, Err, unwrap_or, is_some, if◌then◌else◌}
 use Rattle.toml.specs.Data.{Members, get_member}
 use Rattle.site_params.specs.declared.fault.SiteFault.TheVariants.{NotBuilt}
 use Rattle.site_params.specs.declared.ranges.TheConstants.{VERSION, DAY_SECONDS, CYCLE_SECONDS, QNH_FEET, SET_COUNT, LOOK_SECONDS, SEPARATION_METRES, SEPARATION_FEET, SPLIT_FEET}
 use Rattle.site_params.specs.declared.fields.General.{General}
+use Rattle.site_params.specs.declared.fields.NamedSets.{NamedSets}
 use Rattle.site_params.specs.declared.site.Confirm.{Confirm}
 use Rattle.site_params.specs.declared.site.Set.{Set}
 use Rattle.site_params.specs.declared.site.Site.{Site}
 use Rattle.site_params.specs.Kinds.{Reading, ◌>>=◌, Place, field, boolean, table}
 use Rattle.site_params.specs.Numbers.{octet, seconds, metres, height, optional_integer, optional_levels}
 use Rattle.site_params.specs.Lists.{codes, confirm}
-use Rattle.site_params.specs.Entries.{tables, entries}
+use Rattle.site_params.specs.Entries.{tables, name_of, entries}
+use Rattle.site_params.specs.Regions.{regions_of}
+use Rattle.site_params.specs.Volumes.{volumes_of}
 
 -- what isn't built must not stand there
 unfoldable pub not_built : ℕ → List ℕ → Place → Reading (Unit {0})
@@ -83,15 +86,16 @@ set_of at = do
     urgent = urgent;
   })
 
--- the parameter sets of these tables, each with its name
+-- the parameter sets of these tables
 unfoldable pub sets_in : List Members → Reading (List Set)
 sets_in tables = entries set_of 16 (key "name") tables
 
--- the parameter sets
-unfoldable pub sets_of : Place → Reading (List Set)
+-- the parameter sets, each with its name
+unfoldable pub sets_of : Place → Reading NamedSets
 sets_of at = do
   tables ← tables 15 (key "set") SET_COUNT at
-  sets_in tables
+  sets ← sets_in tables
+  Ok (record { sets = sets; names = map (name_of (key "name")) tables })
 
 -- the whole document
 unfoldable pub site_of : Place → Reading Site
@@ -100,9 +104,9 @@ site_of at = do
   excluded ← codes 8 (key "codes") at
   terrain ← not_built 9 (key "terrain") at
   confirm ← confirms_of at
-  sets ← sets_of at
-  region ← not_built 33 (key "region") at
-  volume ← not_built 39 (key "volume") at
+  named ← sets_of at
+  regions ← regions_of named.names at
+  volumes ← volumes_of at
   funnel ← not_built 45 (key "funnel") at
   Ok (record {
     sac = general.sac;
@@ -113,5 +117,7 @@ site_of at = do
     qnh = general.qnh;
     codes = excluded;
     confirm = confirm;
-    sets = sets;
+    sets = named.sets;
+    regions = regions;
+    volumes = volumes;
   })

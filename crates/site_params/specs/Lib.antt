@@ -2,6 +2,9 @@ pub mod Kinds
 pub mod Ranges
 pub mod Numbers
 pub mod Lists
+pub mod Pairs
 pub mod Entries
+pub mod Regions
+pub mod Volumes
 pub mod Fields
 pub mod Site

@@ -27,8 +27,11 @@ items_of no_items = []
 items_of (item first others) = first ∷ items_of others
 
 -- the parts of a list
+abbrev pub as_parts : Data → Option (List Data)
+as_parts value = option_map items_of (as_array value)
+
 abbrev pub parts : Field → Data → Reading (List Data)
-parts at value = ok_or (option_map items_of (as_array value)) (Kind at)
+parts at value = ok_or (as_parts value) (Kind at)
 
 -- the tables that the code holds, as their members
 abbrev pub table_views : List (Bor (BTreeMap (String Global) Value)) → List Members

@@ -1,11 +1,12 @@
 //! The fields of a site file in the order in which they are checked, each with its number, its key, its kind
 //! and its range.
 
-ghost use Rattle.std.specs.Prelude.{◌≡◌, ◌≢◌, ◌<◌, ◌^◌, length, vec_len, IfOk, IfErr, Ok, Err, All};
-ghost use Rattle.site_params.specs.Ranges.{IsIn, IsConfirm, IsSet, IsSets, IsGeneral, IsSite};
+ghost use Rattle.std.specs.Prelude.{codes as key, ◌≡◌, ◌≢◌, ◌<◌, ◌^◌, map, length, IfOk, IfErr, Ok, Err, All};
+ghost use Rattle.site_params.specs.Ranges.{IsIn, IsConfirm, IsSet, IsNamedSets, IsGeneral, IsSite};
 ghost use Rattle.site_params.specs.declared.fault.SiteFault.TheVariants.{NoMemory};
 ghost use Rattle.site_params.specs.Kinds.{place};
 ghost use Rattle.site_params.specs.Lists.{table_views};
+ghost use Rattle.site_params.specs.Entries.{name_of};
 ghost use Rattle.site_params.specs.Fields.{not_built, general_of, confirms_of, switches_of, looks_of, set_of, sets_in, sets_of, site_of};
 
 use crate::entries::Names;
@@ -16,7 +17,9 @@ use crate::ranges::{
     CYCLE_SECONDS, DAY_SECONDS, LOOK_SECONDS, QNH_FEET, SEPARATION_FEET, SEPARATION_METRES,
     SET_COUNT, SPLIT_FEET, VERSION,
 };
+use crate::regions::regions_of;
 use crate::site::{Confirm, Set, Sets, Site};
+use crate::volumes::volumes_of;
 use std::alloc::Global;
 use toml::Table;
 
@@ -29,6 +32,13 @@ pub struct General {
     period: i64,
     timeout: i64,
     qnh: i32,
+}
+
+/// The parameter sets, and their names in the same order.
+#[derive(Drop)]
+pub struct NamedSets<'a> {
+    sets: Sets,
+    names: Names<'a>,
 }
 
 /// What isn't built must not stand there.
@@ -127,12 +137,13 @@ fn set_of(at: &Place) -> Result<Set, SiteFault>
 
 /// The parameter sets of these tables, each with its name.
 #[tactic(auto, using(crate::proofs::EntrySteps::entry_steps), unfolding(crate::specs::Fields::sets_in))]
-fn sets_in<'a>(alloc: Global, tables: &[&'a Table]) -> Result<Vec<Set>, SiteFault>
+fn sets_in<'a>(alloc: Global, tables: &[&'a Table]) -> Result<NamedSets<'a>, SiteFault>
     requires { length tables.now < 2 ^ 32 }
-    ensures ok { IfOk result (λ found. sets_in (table_views tables.now) ≡ Ok found.items) }
+    ensures ok { IfOk result (λ found. sets_in (table_views tables.now) ≡ Ok found.sets) }
     ensures fault { IfErr result (λ e. e ≢ NoMemory → sets_in (table_views tables.now) ≡ Err e) }
-    ensures inside { IfOk result (λ found. All IsSet found.items) }
-    ensures count { IfOk result (λ found. vec_len found ≡ length tables.now) }
+    ensures names { IfOk result (λ found. found.names ≡ map (name_of (key "name")) (table_views tables.now)) }
+    ensures inside { IfOk result (λ found. All IsSet found.sets) }
+    ensures count { IfOk result (λ found. length found.sets ≡ length tables.now) }
 {
     let mut names = Names::new(alloc);
     let mut sets = Vec::with_capacity(alloc, tables.len())?;
@@ -144,18 +155,25 @@ fn sets_in<'a>(alloc: Global, tables: &[&'a Table]) -> Result<Vec<Set>, SiteFaul
         at.own_name(16, "name", &mut names)?;
         sets.push(set_of(&at)?)?;
     }
-    Ok(sets)
+    Ok(NamedSets {
+        sets: Sets::new(sets),
+        names,
+    })
 }
 
 /// The parameter sets.
 #[tactic(auto, unfolding(crate::specs::Fields::sets_of))]
-fn sets_of(alloc: Global, at: &Place) -> Result<Sets, SiteFault>
+fn sets_of<'a>(alloc: Global, at: &Place<'a>) -> Result<NamedSets<'a>, SiteFault>
     ensures ok { IfOk result (λ found. sets_of (place at.now) ≡ Ok found) }
     ensures fault { IfErr result (λ e. e ≢ NoMemory → sets_of (place at.now) ≡ Err e) }
-    ensures inside { IfOk result IsSets }
+    ensures inside { IfOk result IsNamedSets }
 {
     let tables = at.tables(alloc, 15, "set", SET_COUNT)?;
-    Ok(Sets::new(sets_in(alloc, &tables)?))
+    let named = sets_in(alloc, &tables)?;
+    Ok(NamedSets {
+        sets: named.sets,
+        names: named.names,
+    })
 }
 
 /// What the whole document sets.
@@ -169,9 +187,9 @@ pub fn site_of(alloc: Global, at: &Place) -> Result<Site, SiteFault>
     let codes = at.codes(alloc, 8, "codes")?;
     not_built(at, 9, "terrain")?;
     let confirm = confirms_of(alloc, at)?;
-    let sets = sets_of(alloc, at)?;
-    not_built(at, 33, "region")?;
-    not_built(at, 39, "volume")?;
+    let named = sets_of(alloc, at)?;
+    let regions = regions_of(alloc, &named.names, at)?;
+    let volumes = volumes_of(alloc, at)?;
     not_built(at, 45, "funnel")?;
     Ok(Site {
         sac: general.sac,
@@ -182,6 +200,8 @@ pub fn site_of(alloc: Global, at: &Place) -> Result<Site, SiteFault>
         qnh: general.qnh,
         codes,
         confirm,
-        sets,
+        sets: named.sets,
+        regions,
+        volumes,
     })
 }

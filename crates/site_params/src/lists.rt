@@ -1,12 +1,12 @@
 //! Lists of a site file.
 
-ghost use Rattle.std.specs.Prelude.{◌≡◌, ◌≢◌, IfOk, IfErr, Ok, Err, All, map, length, vec_len};
+ghost use Rattle.std.specs.Prelude.{◌≡◌, ◌≢◌, IfOk, IfErr, Ok, Err, All, map, option_map, length, vec_len};
 ghost use Rattle.toml.specs.Data.{as_integer, as_table};
 ghost use Rattle.toml.specs.View.{view};
 ghost use Rattle.site_params.specs.declared.fault.SiteFault.TheVariants.{NoMemory};
 ghost use Rattle.site_params.specs.Kinds.{reading_map, place};
 ghost use Rattle.site_params.specs.Ranges.{IsCode, IsCodes, IsConfirm};
-ghost use Rattle.site_params.specs.Lists.{each, of_kind, parts, table_views, list_of, code, codes_of, codes, confirm_of, confirm_list, confirm};
+ghost use Rattle.site_params.specs.Lists.{each, of_kind, as_parts, parts, table_views, list_of, code, codes_of, codes, confirm_of, confirm_list, confirm};
 
 use crate::fault::{Field, SiteFault};
 use crate::kinds::Place;
@@ -15,14 +15,21 @@ use crate::site::{Codes, Confirm};
 use std::alloc::Global;
 use toml::{Table, Value};
 
-/// The parts of a list.
-fn parts(at: Field, value: &Value) -> Result<&[Value], SiteFault>
-    ensures { reading_map (λ parts. map view parts.now) result ≡ parts at (view value.now) }
+/// The parts of a list, if it is one.
+pub fn as_parts(value: &Value) -> Option<&[Value]>
+    ensures { option_map (λ parts. map view parts.now) result ≡ as_parts (view value.now) }
 {
     match value.as_array() {
-        None => Err(SiteFault::Kind(at)),
-        Some(parts) => Ok(parts.as_slice()),
+        None => None,
+        Some(parts) => Some(parts.as_slice()),
     }
+}
+
+/// The parts of a list.
+pub fn parts(at: Field, value: &Value) -> Result<&[Value], SiteFault>
+    ensures { reading_map (λ parts. map view parts.now) result ≡ parts at (view value.now) }
+{
+    as_parts(value).ok_or(SiteFault::Kind(at))
 }
 
 /// These parts as integers.

@@ -4,6 +4,7 @@ ghost use Rattle.std.specs.Prelude.{◌≡◌, IfOk};
 ghost use Rattle.site_params.specs.Ranges.{within, IsWithin};
 
 use crate::fault::{Field, SiteFault};
+use crate::numbers::{LENGTH_UNITS_PER_METRE, TICKS_PER_SECOND};
 
 /// The least and the greatest value of a field in the site file's unit, or the least and the greatest length
 /// of a text or a list.
@@ -11,6 +12,15 @@ use crate::fault::{Field, SiteFault};
 pub struct Limits {
     pub low: i32,
     pub high: i32,
+}
+
+/// Of a list of pairs how many there may be, the range of their numbers, and how many of a site's units the site
+/// file's is.
+#[derive(Clone, Copy)]
+pub struct PairLimits {
+    pub count: Limits,
+    pub number: Limits,
+    pub units: u16,
 }
 
 /// The version of the site file.
@@ -69,6 +79,37 @@ pub const SEPARATION_FEET: Limits = Limits {
 pub const SPLIT_FEET: Limits = Limits {
     low: 0,
     high: 60_000,
+};
+
+/// How many regions there may be, and how many volumes.
+pub const REGION_COUNT: Limits = Limits { low: 0, high: 256 };
+
+pub const VOLUME_COUNT: Limits = Limits { low: 0, high: 1000 };
+
+/// The floor and the ceiling of a region or a volume, in feet.
+pub const LAYER_FEET: Limits = Limits {
+    low: -5000,
+    high: 100_000,
+};
+
+/// The points of a polygon on the system plane, in metres.
+pub const POINTS: PairLimits = PairLimits {
+    count: Limits { low: 3, high: 256 },
+    number: Limits {
+        low: -4_194_303,
+        high: 4_194_303,
+    },
+    units: LENGTH_UNITS_PER_METRE as u16,
+};
+
+/// From when to when a volume is active, in seconds of the day. The last is the day's end.
+pub const ACTIVE_TIMES: PairLimits = PairLimits {
+    count: Limits { low: 0, high: 48 },
+    number: Limits {
+        low: 0,
+        high: 86_400,
+    },
+    units: TICKS_PER_SECOND as u16,
 };
 
 /// The number, if it is in range.

@@ -1,6 +1,7 @@
 //! What a site file sets.
 ghost use Rattle.std.specs.Prelude.{◌≡◌};
 
+use crate::airspace::{Regions, Volumes};
 use std::marker::Model;
 
 /// Where the nets stand in lists of four.
@@ -136,4 +137,8 @@ pub struct Site {
     pub confirm: [Confirm; 4],
     /// At least one.
     pub sets: Sets,
+    /// Where other sets hold than the first.
+    pub regions: Regions,
+    /// The volumes that APW warns of.
+    pub volumes: Volumes,
 }

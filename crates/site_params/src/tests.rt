@@ -5,6 +5,8 @@ use std::alloc::Global;
 use std::process::Abort;
 use std::test::Fail;
 
+mod airspace;
+
 const SITE_A: &str = "sac = 25
 sic = 100
 start = 36000
@@ -43,14 +45,19 @@ fn line_or<'a>(line: &'a str, front: &str, other: &'a str) -> &'a str {
     if line.starts_with(front) { other } else { line }
 }
 
-/// The site file with another line in place of those that begin so.
-fn edited(alloc: Global, front: &str, other: &str) -> Result<String, Fail> {
+/// A text with another line in place of those that begin so.
+fn with_line(alloc: Global, whole: &str, front: &str, other: &str) -> Result<String, Fail> {
     let mut text = String::new(alloc);
-    for line in SITE_A.lines() {
+    for line in whole.lines() {
         text.push_str(line_or(line, front, other))?;
         text.push_str("\n")?;
     }
     Ok(text)
+}
+
+/// The site file with another line in place of those that begin so.
+fn edited(alloc: Global, front: &str, other: &str) -> Result<String, Fail> {
+    with_line(alloc, SITE_A, front, other)
 }
 
 /// This is the first fault of the text.
@@ -196,7 +203,7 @@ fn numbers_past_their_ranges(rt: HostRuntime) -> Result<(), Fail> {
 #[derive(Clone, Copy)]
 struct Shown(&'static str, &'static str, &'static str);
 
-const SHOWN: [Shown; 18] = [
+const SHOWN: [Shown; 19] = [
     Shown("sac", "sac = 25", "Site { sac: 25, sic: 100, "),
     Shown(
         "sac",
@@ -234,7 +241,16 @@ const SHOWN: [Shown; 18] = [
         "v_low: 983040, v_high: 1228800, split: 35635200, ",
     ),
     Shown("sac", "sac = 25", "now_h: 2370560, now_v_low: 614400, "),
-    Shown("sac", "sac = 25", "now_v_high: 737280, urgent: 2560 }] } }"),
+    Shown(
+        "sac",
+        "sac = 25",
+        "now_v_high: 737280, urgent: 2560 }] }, regions: ",
+    ),
+    Shown(
+        "sac",
+        "sac = 25",
+        "regions: Regions { regions: [] }, volumes: Volumes { volumes: [] } }",
+    ),
     Shown(
         "codes",
         "qnh = -5000\nother = 3",
@@ -290,10 +306,11 @@ enum Why {
     OtherKind,
     OutOfRange(i64),
     NameOf(u32),
+    Unknown,
     NotYetBuilt,
 }
 
-use Why::{Absent, NameOf, NotYetBuilt, OtherKind, OutOfRange};
+use Why::{Absent, NameOf, NotYetBuilt, OtherKind, OutOfRange, Unknown};
 
 fn fault_of(number: u16, entry: u32, why: Why) -> SiteFault {
     let at = Field { number, entry };
@@ -302,6 +319,7 @@ fn fault_of(number: u16, entry: u32, why: Why) -> SiteFault {
         OtherKind => SiteFault::Kind(at),
         OutOfRange(value) => SiteFault::Range(at, value),
         NameOf(first) => SiteFault::Twice(at, first),
+        Unknown => SiteFault::NoSuchName(at),
         NotYetBuilt => SiteFault::NotBuilt(at),
     }
 }
@@ -310,7 +328,7 @@ fn fault_of(number: u16, entry: u32, why: Why) -> SiteFault {
 #[derive(Clone, Copy)]
 struct Case(&'static str, &'static str, u16, Why);
 
-const CASES: [Case; 55] = [
+const CASES: [Case; 60] = [
     Case("sac", "version = 0", 1, OutOfRange(0)),
     Case("sac", "version = 2", 1, OutOfRange(2)),
     Case("sac", "version = true", 1, OtherKind),
@@ -357,8 +375,10 @@ const CASES: [Case; 55] = [
     Case("msaw = t", "msaw = \"true\"", 18, OtherKind),
     Case("apw = t", "apw = [true]", 19, OtherKind),
     Case("apm = t", "apm = 0.0", 20, OtherKind),
-    Case("urgent", "urgent = 0\n[[region]]", 33, NotYetBuilt),
-    Case("urgent", "urgent = 0\n[volume]", 39, NotYetBuilt),
+    Case("urgent", "urgent = 0\n[[region]]", 34, Absent),
+    Case("urgent", "urgent = 0\n[region]", 33, OtherKind),
+    Case("urgent", "urgent = 0\n[[volume]]", 40, Absent),
+    Case("urgent", "urgent = 0\n[volume]", 39, OtherKind),
     Case("codes", "funnel = []", 45, NotYetBuilt),
     // Of several faults that of the lowest number counts, wherever it stands.
     Case("sic", "qnh = 1", 3, Absent),
@@ -366,7 +386,10 @@ const CASES: [Case; 55] = [
     Case("[confirm]", "terrain = 1\n[other]", 9, NotYetBuilt),
     Case("apm = [", "apm = 1\n[[region]]", 14, OtherKind),
     Case("urgent", "[funnel]\n[volume]\n[region]", 32, Absent),
-    Case("codes", "funnel = 1\nvolume = 1", 39, NotYetBuilt),
+    Case("codes", "funnel = 1\nvolume = 1", 39, OtherKind),
+    Case("codes", "volume = 1\nregion = [1]", 33, OtherKind),
+    Case("codes", "funnel = 1\nvolume = []", 45, NotYetBuilt),
+    Case("urgent", "urgent = 121\n[[region]]", 32, OutOfRange(121)),
 ];
 
 fn expect_cases(rt: &impl Abort, alloc: Global, cases: &[Case]) -> Result<(), Fail> {

@@ -24,11 +24,11 @@ loop-engine-init g c =
     let is_timed = timed site c.requires.site in
     let laws = lawful site inputs is_timed c.requires.tellable c.stamps_one_by_one.ensures.clock c.feeds_keep_to_time.ensures.window c.windows_of_a_feed.ensures.rising c.windows_of_a_feed.ensures.inside c.feeds_keep_to_time.ensures.earlier
     c.cycles_in_order.ensures c.feeds_are_ranked.ensures c.tables_of_the_same_records.ensures.table c.tables_of_the_same_records.ensures.due c.tables_are_proper.ensures in
-    let number : c.new-engine.result.next ≡ 0 = c.new-engine.ensures.stands.next in
+    let number : c.in_ok-engine.engine.next ≡ 0 = c.in_ok-engine.ensures.stands.next in
     record {
-      made = subst (λ (n : ℕ). AreMade site inputs n c.in_ok-cursors.cursors.items c.new-table.result c.new-engine.result (record { cycles = 0; firsts = 0; messages = 0 }) (g.K.Sink.taken c.args.out.now) (g.K.Sink.taken c.args.out.now) c.args.steps.now c.args.steps.now) (sym number)
-          (none_made site inputs c.in_ok-cursors.cursors.items c.new-table.result c.new-engine.result (record { cycles = 0; firsts = 0; messages = 0 }) (g.K.Sink.taken c.args.out.now) c.args.steps.now laws c.in_ok-cursors.ensures
-          (fresh_held site c.new-table.result is_timed c.new-table.ensures.held) c.new-table.ensures.stands c.new-engine.ensures.site c.new-engine.ensures.stands refl);
+      made = subst (λ (n : ℕ). AreMade site inputs n c.in_ok-cursors.cursors.items c.new-table.result c.in_ok-engine.engine (record { cycles = 0; firsts = 0; messages = 0 }) (g.K.Sink.taken c.args.out.now) (g.K.Sink.taken c.args.out.now) c.args.steps.now c.args.steps.now) (sym number)
+          (none_made site inputs c.in_ok-cursors.cursors.items c.new-table.result c.in_ok-engine.engine (record { cycles = 0; firsts = 0; messages = 0 }) (g.K.Sink.taken c.args.out.now) c.args.steps.now laws c.in_ok-cursors.ensures
+          (fresh_held site c.new-table.result is_timed c.new-table.ensures.held) c.new-table.ensures.stands c.in_ok-engine.ensures.site c.in_ok-engine.ensures.stands refl);
       quiet = refl;
     }
 

@@ -1,10 +1,10 @@
-use Rattle.std.proofs.Common.{◌+◌, codes, sym, ap}
+use Rattle.std.proofs.Common.{◌+◌, sym, ap}
 use Rattle.std.proofs.lemmas.Result.{err_from_is_err_and}
 use Rattle.std.proofs.lemmas.List.{length_push}
 use Rattle.std.proofs.lemmas.List.Elements.{All-push}
 use Rattle.toml.specs.View.{table_view}
 use Rattle.site_params.specs.Ranges.{IsSet}
-use Rattle.site_params.specs.Fields.{set_of, sets_in}
+use Rattle.site_params.specs.Fields.{sets_in}
 use Rattle.site_params.proofs.EntrySteps.{one_more, name_refused, entry_refused}
 use Rattle.site_params.proofs.fields.sets_in.Goals as goal
 
@@ -12,20 +12,20 @@ pub returns-in_err-own_name-clause-fault : goal.returns-in_err-own_name-clause-f
 unfolding sets_in
 returns-in_err-own_name-clause-fault c =
     let p = err_from_is_err_and c.from_residual-in_err-own_name.result c.from_residual-in_err-own_name.ensures.1 in
-    rw (p.1, p.2) (λ h. name_refused set_of 16 (codes "name") (λ t. table_view t.now) c.args.tables.now c.loop-entry.entry c.loop-entry.names c.loop-entry.sets.items c.index-tables-entry.result c.loop-entry-test.true c.index-tables-entry.is c.loop-entry.invariant.so_far _ (c.in_err-own_name.ensures.fault h))
+    rw (p.1, p.2) (λ h. name_refused (λ t. table_view t.now) c.args.tables.now c.loop-entry-test.true c.index-tables-entry.is c.loop-entry.invariant.so_far _ (c.in_err-own_name.ensures.fault h))
 
 pub returns-in_err-set_of-clause-fault : goal.returns-in_err-set_of-clause-fault
 unfolding sets_in
 returns-in_err-set_of-clause-fault c =
     let p = err_from_is_err_and c.from_residual-in_err-set_of.result c.from_residual-in_err-set_of.ensures.1 in
     let n = c.in_ok-own_name.ensures.ok in
-    rw (p.1, p.2) (λ h. entry_refused set_of 16 (codes "name") (λ t. table_view t.now) c.args.tables.now c.loop-entry.entry c.loop-entry.names c.loop-entry.sets.items c.index-tables-entry.result c.loop-entry-test.true c.index-tables-entry.is c.loop-entry.invariant.so_far n.0 _ n.1 (sym c.in_err-set_of.ensures.value))
+    rw (p.1, p.2) (λ h. entry_refused (λ t. table_view t.now) c.args.tables.now c.loop-entry-test.true c.index-tables-entry.is c.loop-entry.invariant.so_far n.0 _ n.1 (sym c.in_err-set_of.ensures.value))
 
 pub loop-entry-preserved : goal.loop-entry-preserved
 loop-entry-preserved c =
     let n = c.in_ok-own_name.ensures.ok in
     record {
-      so_far = rw (n.2, c.in_ok-push.ensures.items) (one_more set_of 16 (codes "name") (λ t. table_view t.now) c.args.tables.now c.loop-entry.entry c.loop-entry.names c.loop-entry.sets.items c.index-tables-entry.result c.loop-entry-test.true c.index-tables-entry.is c.loop-entry.invariant.so_far n.0 _ n.1 (sym c.in_ok-set_of.ensures.value));
+      so_far = rw (n.2, c.in_ok-push.ensures.items) (one_more (λ t. table_view t.now) c.args.tables.now c.loop-entry-test.true c.index-tables-entry.is c.loop-entry.invariant.so_far n.0 _ n.1 (sym c.in_ok-set_of.ensures.value));
       inside = rw c.in_ok-push.ensures.items (All-push IsSet c.loop-entry.sets.items _ c.loop-entry.invariant.inside c.in_ok-set_of.ensures.inside);
       count = rw (c.in_ok-push.ensures.items, length_push) (ap (λ n. n + 1) c.loop-entry.invariant.count);
     }

@@ -1,0 +1,10 @@
+pub mod Band
+pub mod Beside
+pub mod Courses
+pub mod Either
+pub mod Fits
+pub mod Hits
+pub mod Outside
+pub mod Products
+pub mod Searches
+pub mod Words

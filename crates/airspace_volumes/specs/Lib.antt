@@ -1,0 +1,4 @@
+pub mod Active
+pub mod Apw
+pub mod Bounds
+pub mod Infringements

@@ -1,0 +1,77 @@
+//! Area proximity warning: whether a track is hit by an airspace volume.
+ghost use Rattle.std.specs.Prelude.{◌≡◌, ℕ, pos, ◌≤ℤ◌, IfOk, OnErr, int_le, option_map, unsigned_abs};
+ghost use Rattle.tick_sets.specs.Inequalities.{IsLook};
+ghost use Rattle.tick_sets.specs.Ticks.{AreTicksWhere};
+ghost use Rattle.site_params.specs.Ranges.{IsSet, IsVolume};
+ghost use Rattle.track_motion.specs.Motions.{InRange};
+ghost use Rattle.airspace_volumes.specs.Apw.{CanBeHit, IsAheadInBand, IsInBand, apw_hit, first_inside as first_tick_inside, hit_from as from_tick};
+
+use crate::NoMemory;
+use crate::area::Area;
+use crate::limits::look_ahead;
+use crate::times::active;
+use polygon_plan::inside_ticks;
+use site_params::{Set, Volume};
+use std::alloc::Global;
+use tick_sets::{TickHit, Ticks, linear, meet};
+use track_motion::Motion;
+
+/// The hit of a track by a volume at a cycle's time, by the track's set. None where it isn't hit. The motion
+/// is that at the cycle's time, which counts on over midnight.
+pub fn apw(
+    alloc: Global,
+    m: &Motion,
+    area: &Area<'_>,
+    time: i64,
+    set: &Set,
+) -> Result<Option<TickHit>, NoMemory>
+    requires motion { InRange m.now }
+    requires volume { IsVolume area.now }
+    requires time { pos 0 ≤ℤ time }
+    requires set { IsSet set.now }
+    ensures hit { IfOk result (λ hit. hit ≡ apw_hit m.now area.now time set.now) }
+    // Want of memory is answered only where the polygon's edges are looked at.
+    ensures memory { OnErr result (CanBeHit m.now area.now time set.now) }
+{
+    let look = look_ahead(set);
+    if area.passes_by(m, look) || !active(area.volume(), time) {
+        return Ok(None);
+    }
+    let Some(first) = first_inside(alloc, m, area.volume(), look)? else {
+        return Ok(None);
+    };
+    Ok(Some(hit_from(first, set)))
+}
+
+/// The first tick of `0..=look` at which the track is inside the polygon and from floor to ceiling.
+fn first_inside(alloc: Global, m: &Motion, v: &Volume, look: i64) -> Result<Option<i64>, NoMemory>
+    requires motion { InRange m.now }
+    requires volume { IsVolume v.now }
+    requires look { IsLook look }
+    ensures first { IfOk result (λ first. first ≡ option_map pos (first_tick_inside m.now v.now (unsigned_abs look))) }
+    ensures memory { OnErr result (IsAheadInBand m.now v.now (unsigned_abs look)) }
+{
+    inside_ticks(alloc, v.points.as_slice(), m, ticks_in_band(m, v, look))
+}
+
+/// The ticks of `0..=look` at which the track is from floor to ceiling.
+fn ticks_in_band(m: &Motion, v: &Volume, look: i64) -> Ticks
+    requires motion { InRange m.now }
+    requires volume { IsVolume v.now }
+    requires look { IsLook look }
+    ensures { AreTicksWhere (IsInBand m.now v.now) look result }
+{
+    let above = linear(i128::from(m.vz), i128::from(m.z - v.floor), look);
+    let below = linear(i128::from(-m.vz), i128::from(v.ceiling - m.z), look);
+    meet(above, below)
+}
+
+/// The hit from this tick on: urgent where it begins soon.
+fn hit_from(first: i64, set: &Set) -> TickHit
+    ensures { result ≡ from_tick set.now first }
+{
+    TickHit {
+        first,
+        urgent: first <= set.urgent,
+    }
+}
