@@ -17,6 +17,9 @@ has a feed. All tracks are tentative but for a few pairs that fly head on.
 `cycling` gives traffic over many cycles: that of `en_route`, each track told once in each cycle, and each turning
 round where it comes to the edge of its square or of its levels.
 
+`volumes` gives the text of airspace volumes over the square of so many tracks of `cycling`: polygons of 20 points round a
+middle, 2 to 15 km from it, with floors and ceilings within the levels that the tracks fly on.
+
 All times of the others are from the site's start to just before the end of its first cycle.
 """
 
@@ -164,6 +167,28 @@ def cycling(count, cycles):
             time = START + cycle * PERIOD + i * PERIOD // count
             records.append(bytes(block(seen, numbers[i], time, False)[3:]))
     return in_blocks(records)
+
+
+# Twenty directions round a place, in thousandths.
+DIRECTIONS = [(1000, 0), (951, 309), (809, 588), (588, 809), (309, 951), (0, 1000), (-309, 951), (-588, 809), (-809, 588),
+              (-951, 309), (-1000, 0), (-951, -309), (-809, -588), (-588, -809), (-309, -951), (0, -1000), (309, -951),
+              (588, -809), (809, -588), (951, -309)]
+
+
+def volumes(count, tracks):
+    """So many tables of a site file, over the square of so many tracks. Each line of a table has one value."""
+    draws = Draws()
+    reach = reach_of(tracks) // 2
+    tables = []
+    for i in range(count):
+        x, y = draws.between(-reach, reach), draws.between(-reach, reach)
+        floor = 25 * draws.between(960, 1_500)
+        radii = [draws.between(2_000, 15_000) for _ in DIRECTIONS]
+        points = ", ".join(f"[{x + radius * east // 1_000}, {y + radius * north // 1_000}]"
+                           for radius, (east, north) in zip(radii, DIRECTIONS))
+        tables.append(f'\n[[volume]]\nname = "V{i}"\nfloor = {floor}\nceiling = {floor + 25 * draws.between(40, 200)}\n'
+                      f"points = [{points}]\n")
+    return "".join(tables)
 
 
 # What `mixed` makes its records of: the octets of the fixed items, the size of a part of the extended ones,

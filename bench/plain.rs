@@ -22,17 +22,19 @@ const SAC: u8 = 25;
 const SIC: u8 = 100;
 
 /// Times in ticks of 1/128 s: a day, when the first cycle begins, how long each is, how old a row may be at its end,
-/// the look-ahead, and how far ahead a conflict is urgent.
+/// the look-ahead for pairs and that for volumes, and how far ahead a conflict is urgent.
 const DAY: i64 = 24 * 3_600 * 128;
 const START: i64 = 4_608_000;
 const PERIOD: i64 = 4 * 128;
 const TIMEOUT: i64 = 16 * 128;
 const LOOK: i64 = 120 * 128;
+const LOOK_AHEAD: i64 = 60 * 128;
 const URGENT: i64 = 20 * 128;
 
 /// Lengths are in 1/512 m and heights in 1/30,720 of 25 ft, so that a speed of 0.25 m/s and a rate of
 /// 6.25 ft/min are one unit a tick.
 const HALF_METRE: i64 = 256;
+const METRE: i64 = 2 * HALF_METRE;
 const FEET_25: i64 = 30_720;
 
 /// The limits of linear prediction and those of current proximity.
@@ -48,15 +50,11 @@ const SPLIT: i64 = 29_000 / 25 * FEET_25;
 const _: () = assert!(NOW_H <= LIMIT_H && NOW_V_LOW <= LIMIT_V_LOW && NOW_V_HIGH <= LIMIT_V_HIGH);
 
 /// How many hits in so many cycles begin an alert where none is urgent, and for how many cycles it is held after a hit.
-const CONFIRMING_HITS: u32 = 2;
-const CONFIRMING_CYCLES: u32 = 3;
-const HELD_CYCLES: u32 = 2;
-
-/// The newest cycles, one bit each: those in which hits are counted, those in which a hit holds an alert, and all in
-/// which a hit is remembered.
-const COUNTED: u32 = (1 << CONFIRMING_CYCLES) - 1;
-const HOLDING: u32 = (1 << (HELD_CYCLES + 1)) - 1;
-const REMEMBERED: u32 = COUNTED | HOLDING;
+struct Confirm {
+    hits: u32,
+    cycles: u32,
+    held: u32,
+}
 
 /// The QNH correction in 25 ft, and the Mode 3/A codes that are left out.
 const QNH: i16 = 0;
@@ -194,6 +192,28 @@ struct Mover {
     vz: i64,
 }
 
+/// Which net warns, in the order of their alerts.
+#[derive(Clone, Copy, PartialEq, Eq, PartialOrd, Ord)]
+enum Net {
+    Stca,
+    Apw,
+}
+
+/// Whom an alert is of: a net, a track, and the second track or the number of the volume.
+type Subject = (Net, Key, Key, u16);
+
+/// An airspace volume: its levels, its points, and how far they lie along each axis.
+struct Volume {
+    floor: i64,
+    ceiling: i64,
+    points: Vec<(i64, i64)>,
+    x: (i64, i64),
+    y: (i64, i64),
+}
+
+/// Ticks from the one to the other.
+type Ticks = (i64, i64);
+
 /// Where the second track of a pair is and how it moves, as seen from the first. No axis alone keeps the pair apart,
 /// so along each the two are never farther than the limit and the way of the whole look-ahead, and squared
 /// distances are below 2^62.
@@ -206,22 +226,24 @@ struct Apart {
     dvz: i64,
 }
 
-/// The keys of a pair, the lower one first.
-type Pair = (Key, Key);
-
-struct Hit {
-    pair: Pair,
-    first: i64,
+/// The figures of a pair besides its first tick.
+struct PairFigures {
     closest: i64,
     chs: i64,
     mhs: i64,
     cvs: i64,
     mvs: i64,
     is_current: bool,
-    is_urgent: bool,
 }
 
-/// What is remembered of a pair: its hits, the newest cycle in the lowest bit, and its alert.
+struct Hit {
+    subject: Subject,
+    first: i64,
+    is_urgent: bool,
+    pair: Option<PairFigures>,
+}
+
+/// What is remembered of a subject: its hits, the newest cycle in the lowest bit, and its alert.
 #[derive(Default)]
 struct Alert {
     hits: u32,
@@ -229,10 +251,10 @@ struct Alert {
     number: u16,
 }
 
-/// The pairs that were hit in the newest cycles, and the number of the next alert.
+/// The subjects that were hit in the newest cycles, and the number of the next alert.
 #[derive(Default)]
 struct Book {
-    alerts: BTreeMap<Pair, Alert>,
+    alerts: BTreeMap<Subject, Alert>,
     next_number: u16,
 }
 
@@ -579,40 +601,139 @@ fn examine(a: &Mover, b: &Mover) -> Option<Hit> {
     let first = if is_current { 0 } else { apart.first_conflict(limit_v, closest)? };
     let horizontal = |tick| apart.squared_distance(tick).isqrt() / HALF_METRE;
     let vertical = |tick| apart.height(tick) / FEET_25;
-    Some(Hit {
-        pair: (a.key, b.key),
-        first,
+    let figures = PairFigures {
         closest,
         chs: horizontal(0).min(0xFF_FFFF),
         mhs: horizontal(closest).min(0xFFFF),
         cvs: vertical(0).min(0xFFFF),
         mvs: vertical(closest).min(0xFFFF),
         is_current,
-        is_urgent: is_current || first <= URGENT,
-    })
+    };
+    let is_urgent = is_current || first <= URGENT;
+    Some(Hit { subject: (Net::Stca, a.key, b.key, 0), first, is_urgent, pair: Some(figures) })
 }
 
-/// The hits of all pairs, in key order.
-fn hits(movers: &[Mover]) -> Vec<Hit> {
+/// The ticks of the look-ahead at which a line isn't below 0.
+fn ticks_from_zero(slope: i128, start: i128) -> Option<Ticks> {
+    let look = i128::from(LOOK_AHEAD);
+    let end = start + slope * look;
+    match (start >= 0, end >= 0) {
+        (true, true) => Some((0, LOOK_AHEAD)),
+        (true, false) => Some((0, (start / -slope) as i64)),
+        (false, true) => Some((((-start - 1) / slope + 1) as i64, LOOK_AHEAD)),
+        (false, false) => None,
+    }
+}
+
+fn both(a: Option<Ticks>, b: Option<Ticks>) -> Option<Ticks> {
+    let ((a_first, a_last), (b_first, b_last)) = (a?, b?);
+    let met = (a_first.max(b_first), a_last.min(b_last));
+    (met.0 <= met.1).then_some(met)
+}
+
+impl Volume {
+    fn new(floor: i64, ceiling: i64, points: Vec<(i64, i64)>) -> Self {
+        let ends = |numbers: &[i64]| (numbers.iter().copied().min().unwrap(), numbers.iter().copied().max().unwrap());
+        let x = ends(&points.iter().map(|point| point.0).collect::<Vec<_>>());
+        let y = ends(&points.iter().map(|point| point.1).collect::<Vec<_>>());
+        Self { floor, ceiling, points, x, y }
+    }
+
+    /// Along an axis the track stays on one side of all points.
+    fn is_passed_by(&self, mover: &Mover) -> bool {
+        let beside = |place: i64, speed: i64, (low, high): (i64, i64)| {
+            let end = place + speed * LOOK_AHEAD;
+            place.max(end) < low || place.min(end) > high
+        };
+        beside(mover.x, mover.vx, self.x) || beside(mover.y, mover.vy, self.y)
+    }
+
+    /// The ticks at which an edge counts: it spans the height of the place, lower end included, and is right of it.
+    fn ticks_of(mover: &Mover, from: (i64, i64), to: (i64, i64)) -> Option<Ticks> {
+        let ((x1, y1), (x2, y2)) = if from.1 < to.1 { (from, to) } else { (to, from) };
+        if y1 == y2 {
+            return None;
+        }
+        let wide = |number: i64| i128::from(number);
+        let spans = both(
+            ticks_from_zero(wide(mover.vy), wide(mover.y - y1)),
+            ticks_from_zero(wide(-mover.vy), wide(y2 - 1 - mover.y)),
+        );
+        let (width, height) = (wide(x2 - x1), wide(y2 - y1));
+        let left = wide(mover.y - y1) * width - wide(mover.x - x1) * height - 1;
+        both(spans, ticks_from_zero(wide(mover.vy) * width - wide(mover.vx) * height, left))
+    }
+
+    /// The first tick at which the track is inside. The number of edges that count changes where one begins to
+    /// count, and behind the last tick at which it does.
+    fn first_inside(&self, mover: &Mover) -> Option<i64> {
+        let above = ticks_from_zero(i128::from(mover.vz), i128::from(mover.z - self.floor));
+        let below = ticks_from_zero(i128::from(-mover.vz), i128::from(self.ceiling - mover.z));
+        let (first, last) = both(above, below)?;
+        let mut turns = Vec::with_capacity(2 * self.points.len());
+        let ends = self.points.iter().cycle().skip(1);
+        for (from, to) in self.points.iter().zip(ends) {
+            if let Some((first, last)) = Self::ticks_of(mover, *from, *to) {
+                turns.extend([first, last + 1]);
+            }
+        }
+        turns.sort_unstable();
+        let by = |tick| turns.partition_point(|turn| *turn <= tick);
+        let mut tick = first;
+        while by(tick) % 2 == 0 {
+            tick = *turns.get(by(tick))?;
+        }
+        (tick <= last).then_some(tick)
+    }
+}
+
+/// The hits of all pairs and then those of all tracks by all volumes, in key order.
+fn hits(movers: &[Mover], volumes: &[Volume]) -> Vec<Hit> {
     let mut hits = Vec::new();
     for (i, a) in movers.iter().enumerate() {
         let near = movers[i + 1..].iter().filter(|b| !stay_apart(a, b));
         hits.extend(near.filter_map(|b| examine(a, b)));
     }
+    for mover in movers {
+        for (volume, number) in volumes.iter().zip(0..) {
+            if volume.is_passed_by(mover) {
+                continue;
+            }
+            if let Some(first) = volume.first_inside(mover) {
+                hits.push(Hit { subject: (Net::Apw, mover.key, 0, number), first, is_urgent: first <= URGENT, pair: None });
+            }
+        }
+    }
     hits
+}
+
+impl Net {
+    fn confirm(self) -> Confirm {
+        match self {
+            Net::Stca => Confirm { hits: 2, cycles: 3, held: 2 },
+            Net::Apw => Confirm { hits: 1, cycles: 1, held: 1 },
+        }
+    }
+
+    fn message_type(self) -> u8 {
+        match self {
+            Net::Stca => 7,
+            Net::Apw => 5,
+        }
+    }
 }
 
 impl Book {
     /// The blocks of what the next cycle, with these hits in key order, tells of alerts.
     fn cycle(&mut self, hits: &[Hit], time: i64) -> Blocks {
         for hit in hits {
-            self.alerts.entry(hit.pair).or_default();
+            self.alerts.entry(hit.subject).or_default();
         }
         let (mut hits, mut blocks) = (hits.iter().peekable(), Blocks::default());
-        self.alerts.retain(|pair, alert| {
-            let hit = hits.next_if(|hit| hit.pair == *pair);
-            if let Some(status) = alert.update(hit, &mut self.next_number) {
-                blocks.push(&message(status, alert.number, *pair, hit, time));
+        self.alerts.retain(|subject, alert| {
+            let hit = hits.next_if(|hit| hit.subject == *subject);
+            if let Some(status) = alert.update(subject.0.confirm(), hit, &mut self.next_number) {
+                blocks.push(&message(status, alert.number, *subject, hit, time));
             }
             alert.hits != 0
         });
@@ -622,11 +743,14 @@ impl Book {
 
 impl Alert {
     /// Takes the hit of the newest cycle, and tells how the alert stands, if it is on or was.
-    fn update(&mut self, hit: Option<&Hit>, next_number: &mut u16) -> Option<Status> {
-        self.hits = (self.hits << 1 | u32::from(hit.is_some())) & REMEMBERED;
-        let begins = hit.is_some_and(|hit| hit.is_urgent || (self.hits & COUNTED).count_ones() >= CONFIRMING_HITS);
+    fn update(&mut self, confirm: Confirm, hit: Option<&Hit>, next_number: &mut u16) -> Option<Status> {
+        // The newest cycles, one bit each: those in which hits are counted, and those in which a hit holds an alert.
+        let counted = (1 << confirm.cycles) - 1;
+        let holding = (1 << (confirm.held + 1)) - 1;
+        self.hits = (self.hits << 1 | u32::from(hit.is_some())) & (counted | holding);
+        let begins = hit.is_some_and(|hit| hit.is_urgent || (self.hits & counted).count_ones() >= confirm.hits);
         let was_on = self.is_on;
-        self.is_on = begins || was_on && self.hits & HOLDING != 0;
+        self.is_on = begins || was_on && self.hits & holding != 0;
         match (was_on, self.is_on) {
             (false, false) => None,
             (false, true) => {
@@ -640,26 +764,36 @@ impl Alert {
     }
 }
 
-fn message(status: Status, number: u16, pair: Pair, hit: Option<&Hit>, time: i64) -> Vec<u8> {
-    let [sac, sic, first @ ..] = pair.0.to_be_bytes();
-    let [second_sac, second_sic, second @ ..] = pair.1.to_be_bytes();
-    let mut bytes = vec![0xDD, if hit.is_some() { 0x91 } else { 0x81 }, 0x42, SAC, SIC, 7];
+fn message(status: Status, number: u16, subject: Subject, hit: Option<&Hit>, time: i64) -> Vec<u8> {
+    let (net, key, other, object) = subject;
+    let [sac, sic, first @ ..] = key.to_be_bytes();
+    let [second_sac, second_sic, second @ ..] = other.to_be_bytes();
+    let named = [0xDD, if hit.is_some() { 0x91 } else { 0x81 }, if net == Net::Stca { 0x42 } else { 0x02 }];
+    let mut bytes = Vec::from(named);
+    bytes.extend([SAC, SIC, net.message_type()]);
     bytes.extend(&((time % DAY) as u32).to_be_bytes()[1..]);
     bytes.extend(number.to_be_bytes());
     bytes.push(status as u8);
     bytes.extend(first);
     if let Some(hit) = hit {
-        bytes.push(0xFC);
-        for figure in [hit.first, hit.closest, hit.chs] {
-            bytes.extend(&(figure as u32).to_be_bytes()[1..]);
-        }
-        for figure in [hit.mhs, hit.cvs, hit.mvs] {
-            bytes.extend((figure as u16).to_be_bytes());
+        bytes.push(if hit.pair.is_some() { 0xFC } else { 0x80 });
+        bytes.extend(&(hit.first as u32).to_be_bytes()[1..]);
+        if let Some(pair) = &hit.pair {
+            for figure in [pair.closest, pair.chs] {
+                bytes.extend(&(figure as u32).to_be_bytes()[1..]);
+            }
+            for figure in [pair.mhs, pair.cvs, pair.mvs] {
+                bytes.extend((figure as u16).to_be_bytes());
+            }
         }
     }
-    bytes.extend(second);
-    let flags = hit.map_or(0, |hit| u8::from(hit.is_urgent) | u8::from(hit.is_current) << 1);
-    bytes.extend([7, 7, sac, sic, second_sac, second_sic, flags]);
+    if net == Net::Stca {
+        bytes.extend(second);
+    }
+    let is_current = hit.is_some_and(|hit| hit.pair.as_ref().is_some_and(|pair| pair.is_current));
+    let flags = hit.map_or(0, |hit| u8::from(hit.is_urgent) | u8::from(is_current) << 1);
+    let [high, low] = if net == Net::Stca { [second_sac, second_sic] } else { object.to_be_bytes() };
+    bytes.extend([7, net.message_type(), sac, sic, high, low, flags]);
     bytes
 }
 
@@ -676,13 +810,36 @@ impl Blocks {
     }
 }
 
+/// The whole numbers of a line.
+fn numbers(line: &str) -> Vec<i64> {
+    let parts = line.split(|letter: char| !(letter == '-' || letter.is_ascii_digit()));
+    parts.filter_map(|part| part.parse().ok()).collect()
+}
+
+/// The volumes of a site file as bench/run writes it: the floor, the ceiling and the points of each in a line of their
+/// own, in this order.
+fn volumes_of(site: &str) -> Vec<Volume> {
+    let (_, volumes) = site.split_once("[[volume]]").unwrap_or_default();
+    let value = |text: &str, key: &str| {
+        let line = text.lines().find(|line| line.starts_with(key)).unwrap_or_default();
+        numbers(line)
+    };
+    let volume = |text: &str| {
+        let (floor, ceiling, points) = (value(text, "floor"), value(text, "ceiling"), value(text, "points"));
+        let points = points.chunks_exact(2).map(|point| (point[0] * METRE, point[1] * METRE)).collect();
+        Volume::new(floor[0] / 25 * FEET_25, ceiling[0] / 25 * FEET_25, points)
+    };
+    volumes.split("[[volume]]").filter(|text| !text.is_empty()).map(volume).collect()
+}
+
 /// Ok with the status of a run whose work is done, else the status that ends it.
 fn replay(words: &[String]) -> Result<u8, u8> {
-    // The site's values are constants above: those of examples/site-a.toml.
-    let [command, option, _site, names @ ..] = words else { return Err(2) };
+    // The site's values are constants above, those of examples/site-a.toml, but for its volumes.
+    let [command, option, site, names @ ..] = words else { return Err(2) };
     if command != "replay" || option != "--site" || names.is_empty() || names.len() > MOST_FEEDS {
         return Err(2);
     }
+    let volumes = volumes_of(&std::fs::read_to_string(site).map_err(|_| 4)?);
     let feeds = names.iter().map(std::fs::read).collect::<Result<Vec<_>, _>>().map_err(|_| 4)?;
     let mut cursors = (0..).zip(&feeds).map(|(feed, octets)| Cursor::new(feed, octets)).collect::<Vec<_>>();
     let (mut table, mut book) = (Table::new(), Book::default());
@@ -693,7 +850,7 @@ fn replay(words: &[String]) -> Result<u8, u8> {
         }
         let time = START + (cycle + 1) * PERIOD;
         put_due(&mut table, &mut cursors, cycle);
-        let hits = hits(&movers(&mut table, time));
+        let hits = hits(&movers(&mut table, time), &volumes);
         let blocks = book.cycle(&hits, time);
         out.write_all(&blocks.bytes).and_then(|()| out.flush()).map_err(|_| 5)?;
     }
