@@ -3,18 +3,21 @@ use Rattle.std.proofs.Common.{◌≡◌, ◌↔◌, refl, sym, ◌∙◌, inl, i
 use Rattle.std.proofs.lemmas.Bool.{and_from, and_parts, cases_lt, or_cases, or_left, or_right}
 use Rattle.std.proofs.lemmas.Int.{ints}
 use Rattle.site_params.specs.declared.airspace.Volume.{Volume}
+use Rattle.site_params.specs.Looks.{look_of}
 use Rattle.site_params.specs.declared.site.Set.{Set}
+use Rattle.site_params.specs.declared.site.TheConstants.{APW}
+use Rattle.tick_sets.specs.Searches.{Finds, hit_from}
 use Rattle.tick_sets.specs.declared.TickHit.{TickHit}
 use Rattle.track_motion.specs.declared.motion.Motion.{Motion}
 use Rattle.polygon_plan.specs.Inside.{IsInsideAt}
 use Rattle.airspace_volumes.specs.Active.{holds_time, is_active}
-use Rattle.airspace_volumes.specs.Apw.{apw_hit, first_inside, hit_from, is_inside_at, look_of}
+use Rattle.airspace_volumes.specs.Apw.{apw_hit, first_inside, is_inside_at}
 use Rattle.airspace_volumes.specs.Bounds.{PassesBy}
 use Rattle.airspace_volumes.specs.Infringements.{HoldsTime, Infringes, IsFirst, IsHit}
 use Rattle.airspace_volumes.proofs.Band.{band_fact, band_true}
 use Rattle.airspace_volumes.proofs.Courses.{le_fact, le_true, lt_fact, lt_true}
 use Rattle.airspace_volumes.proofs.Outside.{never_inside}
-use Rattle.airspace_volumes.proofs.Searches.{first_of, none_of}
+use Rattle.airspace_volumes.proofs.Searches.{SearchesFind}
 
 -- ---- times
 not_less : (x y : ℤ) → int_lt x y ≡ false → y ≤ℤ x
@@ -50,58 +53,53 @@ pub times_said : (from to m : ℤ) → IsTrue (holds_time (from, to) m) ↔ Hold
 times_said from to m = by_order from to m (int_lt to from) refl
 
 -- ---- hits
-infringes_fact : (m : Motion) (v : Volume) (set : Set) (t : ℕ) → t ≤ look_of set → is_inside_at m v (pos t) ≡ true → Infringes m v set t
+infringes_fact : (m : Motion) (v : Volume) (set : Set) (t : ℕ) → t ≤ look_of APW set → is_inside_at m v (pos t) ≡ true → Infringes m v set t
 infringes_fact m v set t ahead holds = let parts = and_parts _ _ holds in record { ahead = ahead; inside = parts.0; in_band = band_fact m v (pos t) parts.1 }
 
 infringes_true : (m : Motion) (v : Volume) (set : Set) (t : ℕ) → Infringes m v set t → is_inside_at m v (pos t) ≡ true
 infringes_true m v set t infringes = and_from _ _ infringes.inside (band_true m v (pos t) infringes.in_band)
 
-first_infringed : (m : Motion) (v : Volume) (set : Set) (t : ℕ) → first_inside m v (look_of set) ≡ Some t → Infringes m v set t
-first_infringed m v set t found =
-    let first = first_of (λ s. is_inside_at m v (pos s)) (look_of set) t found in
-    let inside = first.inside in
-    infringes_fact m v set t (omega arith) first.passes
-
-none_infringed : (m : Motion) (v : Volume) (set : Set) (t : ℕ) → first_inside m v (look_of set) ≡ None → Infringes m v set t → ⊥
-none_infringed m v set t none infringes =
-    true≢false (sym (infringes_true m v set t infringes) ∙ none_of (λ s. is_inside_at m v (pos s)) (look_of set) t none infringes.ahead)
+-- what the search over the look-ahead found
+abbrev pub FoundAhead : Motion → Volume → Set → Option ℕ → Type 0
+FoundAhead m v set found = Finds (λ t. is_inside_at m v (pos t)) (look_of APW set) found
 
 abbrev pub hit_by : Set → Bool → Option ℕ → Option TickHit
-hit_by set active found = if active then option_map (λ (t : ℕ). hit_from set (pos t)) found else None
+hit_by set active found = if active then option_map (λ (t : ℕ). hit_from set.urgent (pos t)) found else None
 
-is_hit : (m : Motion) (v : Volume) (time : ℤ) (set : Set) (active : Bool) (found : Option ℕ) → is_active v time ≡ active → first_inside m v (look_of set) ≡ found → IsSome (hit_by set active found) → IsHit m v time set
-is_hit m v time set true (Some t) active found hit = (active, (t, first_infringed m v set t found))
-is_hit m v time set true None active found hit = absurd cc
-is_hit m v time set false found active is hit = absurd cc
+is_hit : (m : Motion) (v : Volume) (time : ℤ) (set : Set) (active : Bool) (found : Option ℕ) → is_active v time ≡ active → FoundAhead m v set found → IsSome (hit_by set active found) → IsHit m v time set
+is_hit m v time set true (Some t) active first hit = (active, (t, infringes_fact m v set t first.ahead first.passes))
+is_hit m v time set true None active fails hit = absurd cc
+is_hit m v time set false found asleep ahead hit = absurd cc
 
-has_hit : (m : Motion) (v : Volume) (time : ℤ) (set : Set) (active : Bool) (found : Option ℕ) → is_active v time ≡ active → first_inside m v (look_of set) ≡ found → IsHit m v time set → IsSome (hit_by set active found)
-has_hit m v time set true (Some t) active found hit = refl
-has_hit m v time set true None active none (awake, (t, infringes)) = absurd (none_infringed m v set t none infringes)
-has_hit m v time set false found asleep is (awake, (t, infringes)) = absurd (true≢false (sym awake ∙ asleep))
+has_hit : (m : Motion) (v : Volume) (time : ℤ) (set : Set) (active : Bool) (found : Option ℕ) → is_active v time ≡ active → FoundAhead m v set found → IsHit m v time set → IsSome (hit_by set active found)
+has_hit m v time set true (Some t) active first hit = refl
+has_hit m v time set true None active fails (awake, (t, infringes)) = absurd (true≢false (sym (infringes_true m v set t infringes) ∙ fails t infringes.ahead))
+has_hit m v time set false found asleep ahead (awake, (t, infringes)) = absurd (true≢false (sym awake ∙ asleep))
 
-pub hit_said : (m : Motion) (v : Volume) (time : ℤ) (set : Set) → IsSome (apw_hit m v time set) ↔ IsHit m v time set
-hit_said m v time set = (
-  is_hit m v time set (is_active v time) (first_inside m v (look_of set)) refl refl,
-  has_hit m v time set (is_active v time) (first_inside m v (look_of set)) refl refl,
-)
+pub hit_said : SearchesFind → (m : Motion) (v : Volume) (time : ℤ) (set : Set) → IsSome (apw_hit m v time set) ↔ IsHit m v time set
+hit_said finds m v time set =
+    let ahead = finds (λ t. is_inside_at m v (pos t)) (look_of APW set) in (
+      is_hit m v time set (is_active v time) (first_inside m v (look_of APW set)) refl ahead,
+      has_hit m v time set (is_active v time) (first_inside m v (look_of APW set)) refl ahead,
+    )
 
-first_by : (m : Motion) (v : Volume) (set : Set) (active : Bool) (found : Option ℕ) → first_inside m v (look_of set) ≡ found → IfSome (hit_by set active found) (λ hit. IsFirst m v set hit.first)
-first_by m v set true (Some t) found = (
+first_by : (m : Motion) (v : Volume) (set : Set) (active : Bool) (found : Option ℕ) → FoundAhead m v set found → IfSome (hit_by set active found) (λ hit. IsFirst m v set hit.first)
+first_by m v set true (Some t) first = (
   t,
   refl,
   record {
-    infringes = first_infringed m v set t found;
+    infringes = infringes_fact m v set t first.ahead first.passes;
     least = λ s infringes. elim (cases_lt s t) [
-      | inl before ↦ absurd (true≢false (sym (infringes_true m v set s infringes) ∙ (first_of (λ tick. is_inside_at m v (pos tick)) (look_of set) t found).earlier s (omega arith) before))
+      | inl before ↦ absurd (true≢false (sym (infringes_true m v set s infringes) ∙ first.earlier s before))
       | inr later ↦ later
     ];
   },
 )
-first_by m v set true None none = tt
-first_by m v set false found is = tt
+first_by m v set true None fails = tt
+first_by m v set false found ahead = tt
 
-pub first_said : (m : Motion) (v : Volume) (time : ℤ) (set : Set) → IfSome (apw_hit m v time set) (λ hit. IsFirst m v set hit.first)
-first_said m v time set = first_by m v set (is_active v time) (first_inside m v (look_of set)) refl
+pub first_said : SearchesFind → (m : Motion) (v : Volume) (time : ℤ) (set : Set) → IfSome (apw_hit m v time set) (λ hit. IsFirst m v set hit.first)
+first_said finds m v time set = first_by m v set (is_active v time) (first_inside m v (look_of APW set)) (finds (λ t. is_inside_at m v (pos t)) (look_of APW set))
 
 -- ---- tracks that pass by
 pub outside_said : (points : List (ℤ × ℤ)) (m : Motion) (look t : ℕ) → PassesBy points m look → t ≤ look → IsInsideAt points m (pos t) → ⊥

@@ -1,9 +1,10 @@
 -- Area proximity warning: which tracks an airspace volume hits, and the figures of a hit (in outline after EUROCONTROL's
 -- guidance material for APW; rules and numbers are this project's profile).
-use Rattle.std.specs.Prelude.{ℕ, ◌+◌, ◌≤◌, Bool, ◌&&◌, IsTrue, int_le, List, find, slice_get, Option, None, option_map, unwrap_or, unsigned_abs, ℤ, pos, ◌≤ℤ◌, if◌then◌else◌}
-use Rattle.std.specs.List.{range_with_len}
+use Rattle.std.specs.Prelude.{ℕ, ◌≤◌, Bool, ◌&&◌, IsTrue, int_le, find, Option, None, option_map, ℤ, pos, ◌≤ℤ◌, if◌then◌else◌}
 use Rattle.tick_sets.specs.Inequalities.{line_at}
+use Rattle.tick_sets.specs.Searches.{hit_from, ticks_to}
 use Rattle.tick_sets.specs.declared.TickHit.{TickHit}
+use Rattle.site_params.specs.Looks.{look_of}
 use Rattle.site_params.specs.declared.site.Set.{Set}
 use Rattle.site_params.specs.declared.site.TheConstants.{APW}
 use Rattle.track_motion.specs.declared.motion.Motion.{Motion}
@@ -11,14 +12,6 @@ use Rattle.polygon_plan.specs.Inside.{inside_at}
 use Rattle.airspace_volumes.specs.Active.{is_active}
 use Rattle.airspace_volumes.specs.Bounds.{PassesBy}
 use Rattle.site_params.specs.declared.airspace.Volume.{Volume}
-
--- the last tick that the set looks ahead to
-abbrev pub look_of : Set → ℕ
-look_of set = unsigned_abs (unwrap_or (slice_get set.look APW) (pos 0))
-
--- each tick of a look-ahead, from tick 0 on
-abbrev pub ticks_to : ℕ → List ℕ
-ticks_to look = range_with_len 0 (look + 1)
 
 -- at a tick the level is from the floor to the ceiling, both included
 abbrev pub is_in_band_at : Motion → Volume → ℤ → Bool
@@ -32,13 +25,9 @@ is_inside_at m v t = inside_at v.points m t && is_in_band_at m v t
 abbrev pub first_inside : Motion → Volume → ℕ → Option ℕ
 first_inside m v look = find (λ t. is_inside_at m v (pos t)) (ticks_to look)
 
--- a hit from a tick on is urgent where that is soon
-abbrev pub hit_from : Set → ℤ → TickHit
-hit_from set first = record { first = first; urgent = int_le first set.urgent }
-
 -- the hit of a track by a volume: there where the volume is active and the track is inside it at some tick of the look-ahead
 abbrev pub apw_hit : Motion → Volume → ℤ → Set → Option TickHit
-apw_hit m v time set = if is_active v time then option_map (λ t. hit_from set (pos t)) (first_inside m v (look_of set)) else None
+apw_hit m v time set = if is_active v time then option_map (λ t. hit_from set.urgent (pos t)) (first_inside m v (look_of APW set)) else None
 
 -- at a tick the level is from the floor to the ceiling, as a fact
 abbrev pub IsInBand : Motion → Volume → ℤ → Type 0
@@ -51,5 +40,5 @@ IsAheadInBand m v look = (t : ℕ) × (t ≤ look) × IsInBand m v (pos t)
 -- as far as it can be told without the polygon's edges: the volume is active, and the track comes into its band and doesn't pass by it
 pub record CanBeHit (m : Motion) (v : Volume) (time : ℤ) (set : Set) : Type 0 where
   pub active : IsTrue (is_active v time)
-  pub in_band : IsAheadInBand m v (look_of set)
-  pub near : ¬ PassesBy v.points m (look_of set)
+  pub in_band : IsAheadInBand m v (look_of APW set)
+  pub near : ¬ PassesBy v.points m (look_of APW set)

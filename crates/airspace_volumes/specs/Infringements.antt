@@ -1,11 +1,13 @@
 -- Area proximity warning in words: when a volume is active, when a track is hit by it, and what the first tick of the hit is (this project's profile).
 use Rattle.std.specs.Prelude.{◌≡◌, ◌⊎◌, ℕ, ◌≤◌, IsTrue, ℤ, pos, ◌≤ℤ◌, ◌<ℤ◌}
 use Rattle.site_params.specs.declared.airspace.Volume.{Volume}
+use Rattle.site_params.specs.Looks.{look_of}
 use Rattle.site_params.specs.declared.site.Set.{Set}
+use Rattle.site_params.specs.declared.site.TheConstants.{APW}
 use Rattle.track_motion.specs.declared.motion.Motion.{Motion}
 use Rattle.polygon_plan.specs.Inside.{IsInsideAt}
 use Rattle.airspace_volumes.specs.Active.{is_active}
-use Rattle.airspace_volumes.specs.Apw.{IsInBand, look_of}
+use Rattle.airspace_volumes.specs.Apw.{IsInBand}
 
 -- the one time is the earlier and m is from it to before the other, or it is the later and m is from it on or before the other
 abbrev pub HoldsTime : ℤ → ℤ → ℤ → Type 0
@@ -13,7 +15,7 @@ HoldsTime from to m = ((from <ℤ to) × (from ≤ℤ m) × (m <ℤ to)) ⊎ ((t
 
 -- the track infringes the volume at a tick: it is one of the look-ahead, and the track is inside the polygon and from the floor to the ceiling then
 pub record Infringes (m : Motion) (v : Volume) (set : Set) (t : ℕ) : Type 0 where
-  pub ahead : t ≤ look_of set
+  pub ahead : t ≤ look_of APW set
   pub inside : IsInsideAt v.points m (pos t)
   pub in_band : IsInBand m v (pos t)
 

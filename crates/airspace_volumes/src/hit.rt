@@ -1,10 +1,10 @@
 //! Area proximity warning: whether a track is hit by an airspace volume.
-ghost use Rattle.std.specs.Prelude.{◌≡◌, ℕ, pos, ◌≤ℤ◌, IfOk, OnErr, int_le, option_map, unsigned_abs};
+ghost use Rattle.std.specs.Prelude.{◌≡◌, ℕ, pos, ◌≤ℤ◌, IfOk, OnErr, option_map, unsigned_abs};
 ghost use Rattle.tick_sets.specs.Inequalities.{IsLook};
 ghost use Rattle.tick_sets.specs.Ticks.{AreTicksWhere};
 ghost use Rattle.site_params.specs.Ranges.{IsSet, IsVolume};
 ghost use Rattle.track_motion.specs.Motions.{InRange};
-ghost use Rattle.airspace_volumes.specs.Apw.{CanBeHit, IsAheadInBand, IsInBand, apw_hit, first_inside as first_tick_inside, hit_from as from_tick};
+ghost use Rattle.airspace_volumes.specs.Apw.{CanBeHit, IsAheadInBand, IsInBand, apw_hit, first_inside as first_tick_inside};
 
 use crate::NoMemory;
 use crate::area::Area;
@@ -13,6 +13,7 @@ use crate::times::active;
 use polygon_plan::inside_ticks;
 use site_params::{Set, Volume};
 use std::alloc::Global;
+use tick_sets::laws::searches_find_the_first;
 use tick_sets::{TickHit, Ticks, linear, meet};
 use track_motion::Motion;
 
@@ -33,6 +34,8 @@ pub fn apw(
     // Want of memory is answered only where the polygon's edges are looked at.
     ensures memory { OnErr result (CanBeHit m.now area.now time set.now) }
 {
+    // The proof takes this law; the call does nothing.
+    searches_find_the_first();
     let look = look_ahead(set);
     if area.passes_by(m, look) || !active(area.volume(), time) {
         return Ok(None);
@@ -40,7 +43,7 @@ pub fn apw(
     let Some(first) = first_inside(alloc, m, area.volume(), look)? else {
         return Ok(None);
     };
-    Ok(Some(hit_from(first, set)))
+    Ok(Some(TickHit::from_tick(first, set.urgent)))
 }
 
 /// The first tick of `0..=look` at which the track is inside the polygon and from floor to ceiling.
@@ -51,6 +54,8 @@ fn first_inside(alloc: Global, m: &Motion, v: &Volume, look: i64) -> Result<Opti
     ensures first { IfOk result (λ first. first ≡ option_map pos (first_tick_inside m.now v.now (unsigned_abs look))) }
     ensures memory { OnErr result (IsAheadInBand m.now v.now (unsigned_abs look)) }
 {
+    // The proof takes this law; the call does nothing.
+    searches_find_the_first();
     inside_ticks(alloc, v.points.as_slice(), m, ticks_in_band(m, v, look))
 }
 
@@ -64,14 +69,4 @@ fn ticks_in_band(m: &Motion, v: &Volume, look: i64) -> Ticks
     let above = linear(i128::from(m.vz), i128::from(m.z - v.floor), look);
     let below = linear(i128::from(-m.vz), i128::from(v.ceiling - m.z), look);
     meet(above, below)
-}
-
-/// The hit from this tick on: urgent where it begins soon.
-fn hit_from(first: i64, set: &Set) -> TickHit
-    ensures { result ≡ from_tick set.now first }
-{
-    TickHit {
-        first,
-        urgent: first <= set.urgent,
-    }
 }

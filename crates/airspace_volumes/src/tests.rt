@@ -1,9 +1,10 @@
 // Expected values are worked out by hand: a tick is 1/128 s, a metre 512 units, and 25 ft are 30,720.
 ghost use Rattle.std.specs.Prelude.{◌≤ℤ◌, All, IfSome, IsTrue, pos};
-ghost use Rattle.site_params.specs.Ranges.{AreTimes, IsIn, IsPair, IsPolygon, IsSet, IsVolume};
+ghost use Rattle.site_fields.specs.Ranges.{IsIn, IsPair};
+ghost use Rattle.site_params.specs.Ranges.{AreTimes, IsPolygon, IsSet, IsVolume};
 ghost use Rattle.track_motion.specs.Motions.{InRange};
 ghost use Rattle.site_params.specs.declared.ranges.TheConstants.{ACTIVE_TIMES, LOOK_SECONDS, POINTS};
-ghost use Rattle.site_params.specs.declared.numbers.TheConstants.{TICKS_PER_SECOND};
+ghost use Rattle.site_fields.specs.declared.numbers.TheConstants.{TICKS_PER_SECOND};
 
 use crate::{Area, Bounds, NoMemory, active, apw};
 use site_params::{Pairs, Set, Volume};

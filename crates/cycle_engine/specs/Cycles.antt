@@ -7,53 +7,54 @@ use Rattle.alert_states.specs.Events.{events, firsts}
 use Rattle.cat004_write.specs.Blocks.{pack}
 use Rattle.cat004_write.specs.Messages.{message}
 use Rattle.cycle_workers.specs.Hits.{count_examined, hits_of}
+use Rattle.cycle_workers.specs.Settings.{Setting}
 use Rattle.site_params.specs.declared.site.Site.{Site}
 use Rattle.track_table.specs.declared.table.Frozen.{Frozen}
 use Rattle.cycle_engine.specs.declared.engine.CycleDone.{CycleDone}
 
 -- the hits of each cycle
-abbrev pub hits_in : Site → List Frozen → List (List Hit)
-hits_in site tables = map (hits_of site) tables
+abbrev pub hits_in : Setting → List Frozen → List (List Hit)
+hits_in s tables = map (hits_of s) tables
 
 -- what the newest cycle says of alerts
-abbrev pub events_in : Site → List Frozen → List Event
-events_in site tables = events site.confirm (hits_in site tables)
+abbrev pub events_in : Setting → List Frozen → List Event
+events_in s tables = events s.site.confirm (hits_in s tables)
 
 -- the message of an event at a table's time
 abbrev pub message_in : Site → Frozen → Event → List ℕ
 message_in site table event = message event (unsigned_abs table.time) site.sac site.sic
 
 -- the alert bytes of the newest cycle: its messages in blocks
-abbrev pub cycle_alerts : Site → List Frozen → List ℕ
-cycle_alerts site [] = []
-cycle_alerts site (table ∷ before) = pack (map (message_in site table) (events_in site (table ∷ before)))
+abbrev pub cycle_alerts : Setting → List Frozen → List ℕ
+cycle_alerts s [] = []
+cycle_alerts s (table ∷ before) = pack (map (message_in s.site table) (events_in s (table ∷ before)))
 
 -- the alert bytes of all cycles, in order
-abbrev pub alerts : Site → List Frozen → List ℕ
-alerts site [] = []
-alerts site (table ∷ before) = alerts site before ++ cycle_alerts site (table ∷ before)
+abbrev pub alerts : Setting → List Frozen → List ℕ
+alerts s [] = []
+alerts s (table ∷ before) = alerts s before ++ cycle_alerts s (table ∷ before)
 
 -- how many alerts begin in the newest cycle
-abbrev pub firsts_in : Site → List Frozen → ℕ
-firsts_in site tables = length (firsts site.confirm (hits_in site tables))
+abbrev pub firsts_in : Setting → List Frozen → ℕ
+firsts_in s tables = length (firsts s.site.confirm (hits_in s tables))
 
 -- how many messages all cycles give, how many alerts begin in them, and how many pairs are examined
-abbrev pub count_messages : Site → List Frozen → ℕ
-count_messages site [] = 0
-count_messages site (table ∷ before) = count_messages site before + length (events_in site (table ∷ before))
+abbrev pub count_messages : Setting → List Frozen → ℕ
+count_messages s [] = 0
+count_messages s (table ∷ before) = count_messages s before + length (events_in s (table ∷ before))
 
-abbrev pub count_firsts : Site → List Frozen → ℕ
-count_firsts site [] = 0
-count_firsts site (table ∷ before) = count_firsts site before + firsts_in site (table ∷ before)
+abbrev pub count_firsts : Setting → List Frozen → ℕ
+count_firsts s [] = 0
+count_firsts s (table ∷ before) = count_firsts s before + firsts_in s (table ∷ before)
 
 abbrev pub count_all_examined : Site → List Frozen → ℕ
 count_all_examined site [] = 0
 count_all_examined site (table ∷ before) = count_all_examined site before + count_examined site table
 
 -- what a cycle answers
-abbrev pub done_of : Site → Frozen → List Frozen → CycleDone
-done_of site table before = record {
-  messages = length (events_in site (table ∷ before));
-  firsts = firsts_in site (table ∷ before);
-  examined = count_examined site table;
+abbrev pub done_of : Setting → Frozen → List Frozen → CycleDone
+done_of s table before = record {
+  messages = length (events_in s (table ∷ before));
+  firsts = firsts_in s (table ∷ before);
+  examined = count_examined s.site table;
 }

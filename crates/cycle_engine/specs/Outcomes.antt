@@ -13,11 +13,11 @@ use Rattle.cycle_engine.specs.declared.engine.CycleDone.{CycleDone}
 
 -- a sink took the alert bytes of the cycle
 abbrev pub Writes : Held → Frozen → Option (List ℕ) → Option (List ℕ) → Type 0
-Writes held table old new = (tables : List Frozen) → StandsFor held tables → Appends old new (cycle_alerts held.site (table ∷ tables))
+Writes held table old new = (tables : List Frozen) → StandsFor held tables → Appends old new (cycle_alerts held.setting (table ∷ tables))
 
 -- a sink took a prefix of them
 abbrev pub WritesPrefix : Held → Frozen → Option (List ℕ) → Option (List ℕ) → Type 0
-WritesPrefix held table old new = (tables : List Frozen) → StandsFor held tables → AppendsPrefix old new (cycle_alerts held.site (table ∷ tables))
+WritesPrefix held table old new = (tables : List Frozen) → StandsFor held tables → AppendsPrefix old new (cycle_alerts held.setting (table ∷ tables))
 
 -- what is kept after it
 abbrev pub Keeps : Held → Frozen → Held → Type 0
@@ -25,7 +25,7 @@ Keeps old table new = (tables : List Frozen) → StandsFor old tables → Stands
 
 -- what it answers
 abbrev pub Answers : Held → Frozen → CycleDone → Type 0
-Answers held table done = (tables : List Frozen) → StandsFor held tables → done ≡ done_of held.site table tables
+Answers held table done = (tables : List Frozen) → StandsFor held tables → done ≡ done_of held.setting table tables
 
 -- what hits tell of alerts, how many alerts begin with them, and what a book keeps after them
 abbrev pub Tells : books.Held → List Hit → List Event → Type 0

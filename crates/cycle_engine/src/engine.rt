@@ -1,21 +1,23 @@
 //! The engine: it makes one cycle after the other, and keeps the book of alerts over all of them.
 ghost use Rattle.std.specs.Prelude.{◌≡◌, ◌+◌, ◌≤◌, [], IfOk, OnOk, IsErrOf};
 ghost use Rattle.outside_io.specs.Faults.{Rose};
+ghost use Rattle.cycle_workers.specs.Settings.{setting};
 ghost use Rattle.site_params.specs.Ranges.{IsSite};
+ghost use Rattle.terrain_file.specs.Ranges.{IsTerrain};
 ghost use Rattle.cycle_engine.specs.Held.{IsTableOf, StandsFor};
 ghost use Rattle.cycle_engine.specs.Outcomes.{Answers, Keeps, Writes, WritesPrefix};
 
 use crate::NoMemory;
 use crate::messages::{pack_events, tell_events};
-use airspace_volumes::Area;
 use alert_states::{Book, Event};
 use cat004_write::Packer;
-use cycle_workers::{areas_of, hits_one};
+use cycle_workers::{Nets, hits_one};
 use outside_io::{Failed, Sink, Steps, write_whole};
 use site_params::Site;
 use std::alloc::{AllocError, Global};
 use std::marker::Model;
 use std::sync::ledger::Ledger;
+use terrain_file::Terrain;
 use track_table::Frozen;
 
 /// What a cycle came to: how many messages it wrote, how many alerts begin in it, and how many pairs were examined.
@@ -57,12 +59,10 @@ impl From<Failed> for CycleFault {
     }
 }
 
-/// Makes the cycles of a site, each from its table.
+/// Makes the cycles of a site over a terrain, each from its table.
 #[derive(Drop)]
 pub struct Engine<'a> {
-    site: &'a Site,
-    /// Those of the site's volumes.
-    areas: Vec<Area<'a>>,
+    nets: Nets<'a>,
     book: Book,
     packer: Packer,
     /// Room for the events of the next cycle; those of the last stand in it.
@@ -76,21 +76,21 @@ impl<'a> Model for Engine<'a> {
 
     ghost Value = { Held };
 
-    ghost view = { λ e. record { site = e.site.now; book = e.book; next = e.next } };
+    ghost view = { λ e. record { setting = e.nets; book = e.book; next = e.next } };
 
-    ghost invariant = { λ e. IsReady e.site.now e.areas.items e.book e.packer.blocks };
+    ghost invariant = { λ e. IsReady e.nets.site e.book e.packer.blocks };
 }
 
 impl<'a> Engine<'a> {
     /// An engine before the first cycle.
-    pub fn new(alloc: Global, site: &'a Site) -> Result<Engine<'a>, NoMemory>
-        requires { IsSite site.now }
-        ensures site { IfOk result (λ engine. engine.site ≡ site.now) }
+    pub fn new(alloc: Global, site: &'a Site, terrain: &'a Terrain) -> Result<Engine<'a>, NoMemory>
+        requires site { IsSite site.now }
+        requires terrain { IsTerrain terrain.now }
+        ensures setting { IfOk result (λ engine. engine.setting ≡ setting site.now terrain.now) }
         ensures stands { IfOk result (λ engine. StandsFor engine []) }
     {
         Ok(Engine {
-            site,
-            areas: areas_of(alloc, site)?,
+            nets: Nets::of(alloc, site, terrain)?,
             book: Book::new(alloc, site.confirm),
             packer: Packer::new(alloc),
             events: Vec::new(alloc),
@@ -113,7 +113,7 @@ impl<'a> Engine<'a> {
         sink: &mut K,
         steps: &mut Steps<L>,
     ) -> Result<CycleDone, CycleFault>
-        requires table { IsTableOf self.old.site self.old.next f.now }
+        requires table { IsTableOf self.old.setting.site self.old.next f.now }
 
         // The cycle was made.
         ensures bytes { OnOk result (Writes self.old f.now (K.taken sink.old) (K.taken sink.new)) }
@@ -131,19 +131,20 @@ impl<'a> Engine<'a> {
         ensures broken { IsErrOf result CycleFault.WriteFault → Rose (K.faults sink.old) (K.faults sink.new) }
 
         // What stays as it was.
-        ensures site { self.new.site ≡ self.old.site }
+        ensures setting { self.new.setting ≡ self.old.setting }
         ensures unbroken { (IsErrOf result CycleFault.WriteFault → ⊥) → K.faults sink.new ≡ K.faults sink.old }
         ensures louder { K.faults sink.old ≤ K.faults sink.new }
         ensures later { steps.old ≤ steps.new }
     {
-        let found = hits_one(self.alloc, f, self.site, &self.areas, steps)?;
+        let site = self.nets.site();
+        let found = hits_one(self.alloc, f, &self.nets, steps)?;
         let firsts = tell_events(
             &mut self.book,
             &mut self.packer,
             &mut self.events,
             &found.hits,
         )?;
-        let bytes = pack_events(&mut self.packer, &self.events, f, self.site);
+        let bytes = pack_events(&mut self.packer, &self.events, f, site);
         write_whole(sink, &bytes)?;
         self.next += 1;
         Ok(CycleDone {

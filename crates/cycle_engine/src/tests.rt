@@ -16,6 +16,7 @@ use std::marker::Brand;
 use std::process::Abort;
 use std::sync::ledger::{Blank, Ledger};
 use std::test::Fail;
+use terrain_file::Terrain;
 use track_motion::{Stamped, Track, TrackKey};
 use track_table::{Frozen, Rows};
 
@@ -225,8 +226,8 @@ fn made<L: Ledger>(
     sink: &mut MemSink,
     steps: &mut Steps<L>,
 ) -> Result<CycleDone, CycleFault>
-    requires table { IsTableOf engine.old.site engine.old.next table.now }
-    ensures site { engine.new.site ≡ engine.old.site }
+    requires table { IsTableOf engine.old.setting.site engine.old.next table.now }
+    ensures setting { engine.new.setting ≡ engine.old.setting }
 {
     match engine.cycle(table, sink, steps) {
         Err(CycleFault::NoMemory) => {
@@ -270,7 +271,8 @@ fn counted<L: Ledger>(
     requires site { IsSite site.now }
     requires table { IsTableOf site.now 0 table.now }
 {
-    let mut engine = Engine::new(alloc, site)?;
+    let terrain = Terrain::none(alloc);
+    let mut engine = Engine::new(alloc, site, &terrain)?;
     let mut steps = Steps::<L>::new(blank);
     made(rt, &mut engine, table, sink, &mut steps)
 }
@@ -302,7 +304,8 @@ fn expect_cycles<L: Ledger>(
     requires some { 0 < blank.parts }
 {
     let site = site_of(rt, alloc)?;
-    let mut engine = Engine::new(alloc, &site)?;
+    let terrain = Terrain::none(alloc);
+    let mut engine = Engine::new(alloc, &site, &terrain)?;
     let mut steps = Steps::<L>::new(blank);
     for cycle in cycles {
         let table = table_of(rt, alloc, &site, engine.next(), cycle.rows)?;

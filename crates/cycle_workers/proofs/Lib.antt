@@ -1,6 +1,6 @@
+pub mod ByObject
 pub mod Found
 pub mod Keys
-pub mod Numbered
 pub mod Order
 pub mod Pairs
 pub mod Sites

@@ -4,6 +4,7 @@ use Rattle.std.specs.List.{filter_map}
 use Rattle.std.specs.List.Sorted.{IsStrictlySortedBy}
 use Rattle.std.specs.Option.{option_and_then, option_map}
 use Rattle.alert_states.specs.declared.event.Net.{Net}
+use Rattle.alert_states.specs.declared.event.Net.TheVariants.{Apm, Apw, Msaw}
 use Rattle.site_params.specs.declared.site.Site.{Site}
 use Rattle.track_motion.specs.declared.motion.Motion.{Motion}
 use Rattle.track_motion.specs.declared.rank.Stamped.{Stamped}
@@ -13,6 +14,8 @@ use Rattle.track_motion.specs.Motions.{motion_at}
 use Rattle.track_table.specs.declared.table.Frozen.{Frozen}
 use Rattle.cycle_workers.specs.declared.movers.Mover.{Mover}
 use Rattle.cycle_workers.specs.Eligible.{if_enabled, is_enabled, is_watched, mover_of, movers, set_of, watched, watched_of}
+use Rattle.cycle_workers.specs.Hits.{hits_among}
+use Rattle.cycle_workers.specs.Settings.{Setting}
 use Rattle.cycle_workers.proofs.Found.{found_again, rise_found}
 
 -- any row
@@ -71,8 +74,12 @@ pub movers_rise : (site : Site) (net : Net) (frozen : Frozen) → IsStrictlySort
 movers_rise site net frozen up = rise_found key_cmp (λ (r : Stamped). r.track.key) (λ (m : Mover). m.key) (mover_of site net frozen.time) (mover_tells site net frozen.time) frozen.rows up
 
 -- those of the watched rows whose set enables the net are eligible
-eligible_are : (site : Site) (net : Net) (frozen : Frozen) → filter_map (if_enabled site net) (watched site frozen) ≡ movers site net frozen
+pub eligible_are : (site : Site) (net : Net) (frozen : Frozen) → filter_map (if_enabled site net) (watched site frozen) ≡ movers site net frozen
 eligible_are site net frozen = found_again (watched_of site frozen.time) (if_enabled site net) frozen.rows
 
 pub eligible_of : (site : Site) (net : Net) (frozen : Frozen) (all found : List Mover) → all ≡ watched site frozen → found ≡ filter_map (if_enabled site net) all → found ≡ movers site net frozen
 eligible_of site net frozen all found made is = is ∙ ap (filter_map (if_enabled site net)) made ∙ eligible_are site net frozen
+
+-- hits among the same rows of each net
+pub among_same : (s : Setting) (time : ℤ) (f g : Net → List Mover) → ((net : Net) → f net ≡ g net) → hits_among s time f ≡ hits_among s time g
+among_same s time f g same = rw (same Msaw, same Apw, same Apm) refl

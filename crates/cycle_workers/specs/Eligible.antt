@@ -45,6 +45,10 @@ watched_of site time row =
 abbrev pub if_enabled : Site → Net → Mover → Option Mover
 if_enabled site net m = if is_enabled site net m.set then Some m else None
 
+-- those of the movers whose set enables the net
+abbrev pub enabled : Site → Net → List Mover → List Mover
+enabled site net all = filter_map (if_enabled site net) all
+
 -- an eligible row: watched, with a level, and of a set that enables the net
 abbrev pub mover_of : Site → Net → ℤ → Stamped → Option Mover
 mover_of site net time row = option_and_then (if_enabled site net) (watched_of site time row)

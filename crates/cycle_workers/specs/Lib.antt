@@ -1,4 +1,6 @@
 pub mod Eligible
+pub mod Firsts
 pub mod Hits
 pub mod Movers
-pub mod Volumes
+pub mod Nets
+pub mod Settings

@@ -1,5 +1,7 @@
 -- What the nets rely on of tables and of eligible rows (this project's profile).
-use Rattle.std.specs.Prelude.{◌<◌, ◌≤ℤ◌, List, length, All, pos}
+use Rattle.std.specs.Prelude.{◌≡◌, ◌<◌, ◌≤ℤ◌, List, length, slice_get, Some, All, pos}
+use Rattle.site_params.specs.Ranges.{IsSet}
+use Rattle.site_params.specs.declared.site.Set.{Set}
 use Rattle.site_params.specs.declared.site.Site.{Site}
 use Rattle.track_motion.specs.declared.track.TrackKey.{TrackKey}
 use Rattle.track_motion.specs.Motions.{InRange}
@@ -18,6 +20,11 @@ pub record IsMover (site : Site) (m : Mover) : Type 0 where
   pub key : IsKey m.key
   pub motion : InRange m.motion
   pub set : m.set < length site.sets
+
+-- the parameter set of a mover, in range
+pub record IsSetOf (site : Site) (m : Mover) (set : Set) : Type 0 where
+  pub one : slice_get site.sets m.set ≡ Some set
+  pub range : IsSet set
 
 abbrev pub AreMovers : Site → List Mover → Type 0
 AreMovers site movers = All (IsMover site) movers

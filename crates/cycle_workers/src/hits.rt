@@ -1,17 +1,21 @@
 //! All hits of a cycle.
-ghost use Rattle.std.specs.Prelude.{◌≡◌, ◌+◌, ◌^◌, ◌≤◌, ◌++◌, length, IfOk, OnOk};
+ghost use Rattle.std.specs.Prelude.{◌≡◌, ◌+◌, ◌^◌, ◌≤◌, ◌++◌, length, pos, ◌≤ℤ◌, IfOk, OnOk};
 ghost use Rattle.std.specs.List.{filter_map};
 ghost use Rattle.alert_states.specs.Figures.{AreInRoom};
 ghost use Rattle.alert_states.specs.Subjects.{AreInOrder};
 ghost use Rattle.site_params.specs.Ranges.{IsSite};
-ghost use Rattle.cycle_workers.specs.Hits.{count_examined, count_pairs, hit_of, hits_of, stca_hits};
+ghost use Rattle.cycle_workers.specs.Eligible.{enabled as those};
+ghost use Rattle.cycle_workers.specs.Hits.{count_examined, count_pairs, hit_of, hits_among, hits_of, stca_hits};
 ghost use Rattle.cycle_workers.specs.Movers.{AreMovers, IsCycleTable, IsMover};
 
 use crate::NoMemory;
+use crate::funnels::add_funnel_hits;
+use crate::ground::add_ground_hits;
 use crate::movers::{Mover, enabled, watched};
+use crate::nets::Nets;
 use crate::pair::examine_pair;
+use crate::rows::set_of;
 use crate::volumes::add_volume_hits;
-use airspace_volumes::Area;
 use alert_states::{Hit, Net};
 use outside_io::Steps;
 use site_params::Site;
@@ -43,8 +47,9 @@ fn add_hits<L: Ledger>(
     ensures counted { OnOk result (steps.new ≡ steps.old + length others.now) }
     ensures later { steps.old ≤ steps.new }
 {
+    let set = set_of(site, a);
     for b in others {
-        if let Some(hit) = examine_pair(site, a, b, steps) {
+        if let Some(hit) = examine_pair(site, set, a, b, steps) {
             hits.push(hit)?;
         }
     }
@@ -77,29 +82,50 @@ fn pair_hits<L: Ledger>(
     Ok(Hits { hits, examined })
 }
 
+/// Adds the hits of the rows by the terrain, by the volumes and by the funnels.
+fn add_row_hits(
+    alloc: Global,
+    nets: &Nets<'_>,
+    time: i64,
+    all: &[Mover],
+    hits: &mut Vec<Hit>,
+) -> Result<(), NoMemory>
+    requires time { pos 0 ≤ℤ time }
+    requires all { AreMovers nets.now.site all.now }
+    requires room { AreInRoom hits.old.items }
+    ensures hits { OnOk result (hits.new.items ≡ hits.old.items ++ hits_among nets.now time (λ net. those nets.now.site net all.now)) }
+    ensures room { OnOk result (AreInRoom hits.new.items) }
+{
+    let site = nets.site();
+    let over = enabled(alloc, site, Net::Msaw, all)?;
+    add_ground_hits(site, nets.ground(), &over, hits)?;
+    let near = enabled(alloc, site, Net::Apw, all)?;
+    add_volume_hits(alloc, site, nets.areas(), time, &near, hits)?;
+    let landing = enabled(alloc, site, Net::Apm, all)?;
+    add_funnel_hits(site, nets.approaches(), &landing, hits)?;
+    Ok(())
+}
+
 /// All hits of a table in the order of subjects. It examines each pair of rows that are eligible for STCA once,
-/// in one step. The areas are those of the site's volumes, made once for all cycles.
+/// in one step.
 pub fn hits_one<L: Ledger>(
     alloc: Global,
     f: &Frozen,
-    site: &Site,
-    areas: &[Area<'_>],
+    nets: &Nets<'_>,
     steps: &mut Steps<L>,
 ) -> Result<Hits, NoMemory>
-    requires table { IsCycleTable f.now }
-    requires site { IsSite site.now }
-    requires areas { areas.now ≡ site.now.volumes }
-    ensures hits { IfOk result (λ found. found.hits.items ≡ hits_of site.now f.now) }
+    requires { IsCycleTable f.now }
+    ensures hits { IfOk result (λ found. found.hits.items ≡ hits_of nets.now f.now) }
     ensures order { IfOk result (λ found. AreInOrder found.hits.items) }
     ensures room { IfOk result (λ found. AreInRoom found.hits.items) }
-    ensures examined { IfOk result (λ found. found.examined ≡ count_examined site.now f.now) }
+    ensures examined { IfOk result (λ found. found.examined ≡ count_examined nets.now.site f.now) }
     ensures counted { IfOk result (λ found. steps.new ≡ steps.old + found.examined) }
     ensures later { steps.old ≤ steps.new }
 {
+    let site = nets.site();
     let all = watched(alloc, f, site)?;
     let pairs = enabled(alloc, site, Net::Stca, &all)?;
-    let rows = enabled(alloc, site, Net::Apw, &all)?;
     let mut found = pair_hits(alloc, site, &pairs, steps)?;
-    add_volume_hits(alloc, site, areas, f.time, &rows, &mut found.hits)?;
+    add_row_hits(alloc, nets, f.time, &all, &mut found.hits)?;
     Ok(found)
 }

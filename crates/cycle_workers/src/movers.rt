@@ -1,11 +1,10 @@
 //! The rows that a net looks at.
 ghost use Rattle.std.specs.Prelude.{◌≡◌, IfOk, IfSome, All};
-ghost use Rattle.std.specs.List.{filter_map};
 ghost use Rattle.alert_states.specs.Subjects.{place as place_of};
 ghost use Rattle.site_params.specs.Ranges.{IsSite};
 ghost use Rattle.track_motion.specs.Motions.{CanMove, InRange};
 ghost use Rattle.track_table.specs.Proper.{IsProper};
-ghost use Rattle.cycle_workers.specs.Eligible.{if_enabled, is_enabled as enables, is_left_out as left_out, is_watched as watched_track, movers, watched as watched_rows, watched_of};
+ghost use Rattle.cycle_workers.specs.Eligible.{enabled as those, is_enabled as enables, is_left_out as left_out, is_watched as watched_track, movers, watched as watched_rows, watched_of};
 ghost use Rattle.cycle_workers.specs.Movers.{AreMovers, IsKey, IsMover};
 
 use crate::NoMemory;
@@ -104,7 +103,7 @@ pub fn watched(alloc: Global, f: &Frozen, site: &Site) -> Result<Vec<Mover>, NoM
 /// Those of the movers whose set enables the net.
 pub fn enabled(alloc: Global, site: &Site, net: Net, all: &[Mover]) -> Result<Vec<Mover>, NoMemory>
     requires all { AreMovers site.now all.now }
-    ensures movers { IfOk result (λ v. v.items ≡ filter_map (if_enabled site.now net) all.now) }
+    ensures movers { IfOk result (λ v. v.items ≡ those site.now net all.now) }
     ensures range { IfOk result (λ v. AreMovers site.now v.items) }
 {
     let mut movers = Vec::new(alloc);

@@ -4,9 +4,10 @@ ghost use Rattle.alert_states.specs.Figures.{FitsOctets};
 ghost use Rattle.site_params.specs.Ranges.{IsSet, IsSite};
 ghost use Rattle.stca_fine.specs.Stca.{IsInRoom};
 ghost use Rattle.cycle_workers.specs.Hits.{figures as figures_of, flags as flags_of, hit_of, pair_hit as hit_in, pair_set as set_in};
-ghost use Rattle.cycle_workers.specs.Movers.{IsMover};
+ghost use Rattle.cycle_workers.specs.Movers.{IsMover, IsSetOf};
 
 use crate::movers::Mover;
+use crate::rows::set_of;
 use alert_states::{CURRENT_PROXIMITY, Hit, HitData, Net, Subject, URGENT};
 use outside_io::Steps;
 use site_params::{Set, Site};
@@ -59,32 +60,34 @@ fn pair_hit(set: &Set, a: &Mover, b: &Mover, hit: &StcaHit) -> Hit
     }
 }
 
-/// The parameter set of a pair.
-fn pair_set<'a>(site: &'a Site, a: &Mover, b: &Mover) -> &'a Set
+/// The parameter set of a pair, of which the first one's set is this.
+fn pair_set<'a>(site: &'a Site, set: &'a Set, a: &Mover, b: &Mover) -> &'a Set
     requires site { IsSite site.now }
-    requires a { IsMover site.now a.now }
+    requires set { IsSetOf site.now a.now set.now }
     requires b { IsMover site.now b.now }
-    ensures set { Some result.now ≡ set_in site.now a.now b.now }
+    ensures set { set_in site.now a.now b.now ≡ Some result.now }
     ensures range { IsSet result.now }
 {
-    &site.sets.as_slice()[a.set.min(b.set) as usize]
+    if a.set <= b.set { set } else { set_of(site, b) }
 }
 
-/// The hit of a pair, a before b in key order. It takes one step.
+/// The hit of a pair, a before b in key order, by the set of the first and the second's own. It takes one step.
 pub fn examine_pair<L: Ledger>(
     site: &Site,
+    set: &Set,
     a: &Mover,
     b: &Mover,
     steps: &mut Steps<L>,
 ) -> Option<Hit>
     requires site { IsSite site.now }
+    requires set { IsSetOf site.now a.now set.now }
     requires a { IsMover site.now a.now }
     requires b { IsMover site.now b.now }
     ensures hit { result ≡ hit_of site.now a.now b.now }
     ensures room { IfSome result (λ h. FitsOctets h.figures) }
     ensures step { steps.new ≡ steps.old + 1 }
 {
-    let set = pair_set(site, a, b);
+    let set = pair_set(site, set, a, b);
     let hit = examine(&a.motion, &b.motion, set, steps)?;
     Some(pair_hit(set, a, b, &hit))
 }

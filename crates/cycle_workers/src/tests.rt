@@ -2,13 +2,14 @@
 ghost use Rattle.std.specs.Prelude.{◌≡◌, ◌<◌, ◌≤ℤ◌, ◌-ℤ◌, pos, All, IfOk, IfSome, IsTrue, map};
 ghost use Rattle.std.specs.List.Sorted.{IsStrictlySortedBy};
 ghost use Rattle.site_params.specs.Ranges.{IsSite};
+ghost use Rattle.terrain_file.specs.Ranges.{IsTerrain};
 ghost use Rattle.track_motion.specs.Keys.{key_cmp};
 ghost use Rattle.track_motion.specs.declared.motion.TheConstants.{LONGEST_AGE};
 ghost use Rattle.track_motion.specs.Motions.{CanMove};
 ghost use Rattle.track_motion.specs.Tracks.{IsHeight, IsInPlane, IsLevelled};
 ghost use Rattle.cycle_workers.specs.Movers.{IsCycleTable};
 
-use crate::{Hits, Mover, NoMemory, areas_of, eligible, hits_one};
+use crate::{Hits, Mover, Nets, NoMemory, eligible, hits_one};
 use alert_states::{CURRENT_PROXIMITY, Hit, HitData, Net, Subject, URGENT};
 use outside_io::Steps;
 use site_params::{Site, SiteFault, read_site};
@@ -17,10 +18,12 @@ use std::marker::Brand;
 use std::process::Abort;
 use std::sync::ledger::{Blank, Ledger};
 use std::test::Fail;
+use terrain_file::Terrain;
 use track_motion::{Motion, Stamped, Track, TrackKey};
 use track_table::{Frozen, Rows};
 
 mod airspace;
+mod ground;
 
 /// 9,260 m and 800 or 1,000 ft ahead, 4,630 m and 500 or 600 ft now; tracks of code 7000 are left out.
 const SITE_A: &str = "sac = 25
@@ -194,24 +197,37 @@ fn found(alloc: Global, frozen: &Frozen, site: &Site) -> Result<Hits, NoMemory>
     requires table { IsCycleTable frozen.now }
     requires site { IsSite site.now }
 {
-    counted::<Brand>(Blank::new(1), alloc, frozen, site)
+    found_over(alloc, frozen, site, &Terrain::none(alloc))
+}
+
+/// The same over a terrain.
+fn found_over(
+    alloc: Global,
+    frozen: &Frozen,
+    site: &Site,
+    terrain: &Terrain,
+) -> Result<Hits, NoMemory>
+    requires table { IsCycleTable frozen.now }
+    requires site { IsSite site.now }
+    requires terrain { IsTerrain terrain.now }
+{
+    let nets = Nets::of(alloc, site, terrain)?;
+    counted::<Brand>(Blank::new(1), alloc, frozen, &nets)
 }
 
 fn counted<L: Ledger>(
     blank: Blank,
     alloc: Global,
     frozen: &Frozen,
-    site: &Site,
+    nets: &Nets<'_>,
 ) -> Result<Hits, NoMemory>
     requires name { blank.name ≡ L.name }
     requires parts { blank.parts ≡ L.parts }
     requires some { 0 < blank.parts }
     requires table { IsCycleTable frozen.now }
-    requires site { IsSite site.now }
 {
     let mut steps = Steps::<L>::new(blank);
-    let areas = areas_of(alloc, site)?;
-    let found = hits_one(alloc, frozen, site, &areas, &mut steps)?;
+    let found = hits_one(alloc, frozen, nets, &mut steps)?;
     end_at(steps, found.examined);
     Ok(found)
 }

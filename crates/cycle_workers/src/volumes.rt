@@ -1,136 +1,64 @@
 //! The hits of rows by airspace volumes.
-ghost use Rattle.std.specs.Prelude.{◌≡◌, ◌^◌, ◌<◌, ◌++◌, Some, length, pos, ◌≤ℤ◌, IfOk, IfSome, OnOk};
-ghost use Rattle.std.specs.List.{filter_map, slice_get};
-ghost use Rattle.airspace_volumes.specs.Apw.{apw_hit};
+ghost use Rattle.std.specs.Prelude.{◌≡◌, ◌++◌, pos, ◌≤ℤ◌, IfOk, IfSome, OnOk};
+ghost use Rattle.std.specs.List.{filter_map};
 ghost use Rattle.alert_states.specs.Figures.{AreInRoom, FitsOctets};
-ghost use Rattle.site_params.specs.Ranges.{IsSet, IsSite, IsVolume};
-ghost use Rattle.cycle_workers.specs.Hits.{apw_hit_of, apw_hits, numbered, volume_hit as hit_by, volume_figures as figures_of};
-ghost use Rattle.cycle_workers.specs.Movers.{AreMovers, IsMover};
-ghost use Rattle.cycle_workers.specs.Volumes.{IsSoon};
+ghost use Rattle.site_params.specs.Ranges.{AreVolumes, IsSet, IsSite, IsVolume};
+ghost use Rattle.track_motion.specs.Motions.{InRange};
+ghost use Rattle.cycle_workers.specs.Hits.{apw_hit_by, hits_by, numbered};
+ghost use Rattle.cycle_workers.specs.Movers.{AreMovers};
 
 use crate::NoMemory;
 use crate::movers::Mover;
+use crate::rows::{number_of, set_of, tick_hit};
 use airspace_volumes::{Area, apw};
-use alert_states::{Hit, HitData, Net, Subject, URGENT};
+use alert_states::{Hit, Net};
 use site_params::{Set, Site};
 use std::alloc::Global;
-use tick_sets::TickHit;
-use track_motion::TrackKey;
+use tick_sets::laws::searches_find_the_first;
 
-/// No second track.
-const NO_KEY: TrackKey = TrackKey {
-    sac: 0,
-    sic: 0,
-    number: 0,
-};
-
-/// The areas of the site's volumes, to be made once for all cycles.
-pub fn areas_of<'a>(alloc: Global, site: &'a Site) -> Result<Vec<Area<'a>>, NoMemory>
-    ensures { IfOk result (λ areas. areas.items ≡ site.now.volumes) }
-{
-    let volumes = site.volumes.as_slice();
-    let mut areas = Vec::with_capacity(alloc, volumes.len())?;
-    for volume in volumes {
-        areas.push(Area::of(volume))?;
-    }
-    Ok(areas)
-}
-
-/// The figures of a hit by a volume.
-fn volume_figures(hit: TickHit) -> HitData
-    requires soon { IsSoon hit.first }
-    ensures figures { result ≡ figures_of hit }
-    ensures room { FitsOctets result }
-{
-    HitData {
-        first: hit.first as u32,
-        closest: 0,
-        chs: 0,
-        mhs: 0,
-        cvs: 0,
-        mvs: 0,
-        flags: if hit.urgent { URGENT } else { 0 },
-    }
-}
-
-/// What a hit of a row by the volume of this number is to alerts.
-fn volume_hit(m: &Mover, object: u16, hit: TickHit) -> Hit
-    requires soon { IsSoon hit.first }
-    ensures hit { result ≡ hit_by m.now object hit }
-    ensures room { FitsOctets result.figures }
-{
-    Hit {
-        subject: Subject {
-            net: Net::Apw,
-            key: m.key,
-            other: NO_KEY,
-            object,
-        },
-        urgent: hit.urgent,
-        figures: volume_figures(hit),
-    }
-}
-
-/// The parameter set of a row.
-fn set_of<'a>(site: &'a Site, m: &Mover) -> &'a Set
-    requires site { IsSite site.now }
-    requires m { IsMover site.now m.now }
-    ensures set { Some result.now ≡ slice_get site.now.sets m.now.set }
-    ensures range { IsSet result.now }
-{
-    &site.sets.as_slice()[m.set as usize]
-}
-
-/// The hit of a row by the volume of this number.
+/// The hit of a row by the volume of this number, by the row's set.
 fn examine_volume(
     alloc: Global,
-    site: &Site,
+    set: &Set,
     time: i64,
     m: &Mover,
     object: u16,
     area: &Area<'_>,
 ) -> Result<Option<Hit>, NoMemory>
-    requires site { IsSite site.now }
+    requires set { IsSet set.now }
     requires time { pos 0 ≤ℤ time }
-    requires m { IsMover site.now m.now }
+    requires motion { InRange m.now.motion }
     requires volume { IsVolume area.now }
-    ensures hit { IfOk result (λ hit. hit ≡ apw_hit_of site.now time m.now (object, area.now)) }
+    ensures hit { IfOk result (λ hit. hit ≡ apw_hit_by time set.now m.now (object, area.now)) }
     ensures room { IfOk result (λ hit. IfSome hit (λ h. FitsOctets h.figures)) }
 {
-    let set = set_of(site, m);
+    // The proof takes this law; the call does nothing.
+    searches_find_the_first();
     let Some(hit) = apw(alloc, &m.motion, area, time, set)? else {
         return Ok(None);
     };
-    Ok(Some(volume_hit(m, object, hit)))
+    Ok(Some(tick_hit(Net::Apw, m, object, hit)))
 }
 
-/// The number of a volume: its place among all.
-fn number_of(place: usize) -> u16
-    requires { place < 2 ^ 16 }
-    ensures { result ≡ place }
-{
-    place as u16
-}
-
-/// Adds the hits of a row by all volumes.
+/// Adds the hits of a row by all volumes, by the row's set.
 fn add_row_hits(
     alloc: Global,
-    site: &Site,
+    set: &Set,
     areas: &[Area<'_>],
     time: i64,
     m: &Mover,
     hits: &mut Vec<Hit>,
 ) -> Result<(), NoMemory>
-    requires site { IsSite site.now }
-    requires areas { areas.now ≡ site.now.volumes }
+    requires set { IsSet set.now }
+    requires areas { AreVolumes areas.now }
     requires time { pos 0 ≤ℤ time }
-    requires m { IsMover site.now m.now }
+    requires motion { InRange m.now.motion }
     requires room { AreInRoom hits.old.items }
-    ensures hits { OnOk result (hits.new.items ≡ hits.old.items ++ filter_map (apw_hit_of site.now time m.now) (numbered site.now.volumes)) }
+    ensures hits { OnOk result (hits.new.items ≡ hits.old.items ++ filter_map (apw_hit_by time set.now m.now) (numbered areas.now)) }
     ensures room { OnOk result (AreInRoom hits.new.items) }
 {
     for i in 0..areas.len() {
-        if let Some(hit) = examine_volume(alloc, site, time, m, number_of(i), &areas[i])? {
+        if let Some(hit) = examine_volume(alloc, set, time, m, number_of(i), &areas[i])? {
             hits.push(hit)?;
         }
     }
@@ -147,15 +75,15 @@ pub fn add_volume_hits(
     hits: &mut Vec<Hit>,
 ) -> Result<(), NoMemory>
     requires site { IsSite site.now }
-    requires areas { areas.now ≡ site.now.volumes }
+    requires areas { AreVolumes areas.now }
     requires time { pos 0 ≤ℤ time }
     requires movers { AreMovers site.now movers.now }
     requires room { AreInRoom hits.old.items }
-    ensures hits { OnOk result (hits.new.items ≡ hits.old.items ++ apw_hits site.now time movers.now) }
+    ensures hits { OnOk result (hits.new.items ≡ hits.old.items ++ hits_by site.now (apw_hit_by time) areas.now movers.now) }
     ensures room { OnOk result (AreInRoom hits.new.items) }
 {
     for m in movers {
-        add_row_hits(alloc, site, areas, time, m, hits)?;
+        add_row_hits(alloc, set_of(site, m), areas, time, m, hits)?;
     }
     Ok(())
 }

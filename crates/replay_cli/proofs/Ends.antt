@@ -5,17 +5,17 @@ use Rattle.std.proofs.lemmas.List.{append-nil}
 use Rattle.std.specs.Io.KnownBytes.{Appends}
 use Rattle.outside_io.specs.Bytes.{AppendsPrefix, AppendsWhole}
 use Rattle.outside_io.specs.Faults.{Rose}
-use Rattle.site_params.specs.declared.fault.SiteFault.{SiteFault}
 use Rattle.replay_cli.specs.Content.{feeds_are_intact}
 use Rattle.replay_cli.specs.Counts.{report_of}
-use Rattle.replay_cli.specs.Ends.{Ran, Ends, Finishes, Completes, Breaks, Halts, RefusesSite, IsAsked, StopsBy, status_done, status_of}
-use Rattle.replay_cli.specs.FaultTexts.{site_text, text_of_fault, write_failed_text}
+use Rattle.replay_cli.specs.Ends.{Ran, Ends, Finishes, Completes, Breaks, Halts, Refuses, IsAsked, StopsBy, found_by, status_done, status_of}
+use Rattle.replay_cli.specs.FaultTexts.{refusal_text, text_of_fault, write_failed_text}
 use Rattle.replay_cli.specs.Found.{Found, OtherWords, Untold, Lacking, Refused, Given, IfGiven, IsLacking}
 use Rattle.replay_cli.specs.Outcomes.{IsDone, IsDue, IsReport, IsRefusal, Judges, JudgesFeeds, MayWrite, Reports, Serves, Sunk}
 use Rattle.replay_cli.specs.Reference.{reference}
 use Rattle.replay_cli.specs.ReportText.{text_of}
 use Rattle.replay_cli.specs.Stops.{stop_status}
 use Rattle.replay_cli.specs.declared.texts.FaultText.{FaultText}
+use Rattle.replay_cli.specs.declared.texts.Refusal.{Refusal}
 use Rattle.replay_cli.specs.declared.texts.FaultText.TheVariants as texts
 use Rattle.replay_cli.specs.declared.work.Work.{Work}
 
@@ -37,7 +37,7 @@ front_of old new (Err failed) bytes front = front
 
 -- ---- statuses
 
-done_statuses : (b : Bool) → IsDone (status_done b)
+pub done_statuses : (b : Bool) → IsDone (status_done b)
 done_statuses true = inl refl
 done_statuses false = inr refl
 
@@ -49,7 +49,7 @@ kept_or_missed (Ok work) n report (inr misses) = inr (misses.status, done_status
 
 stop_statuses : (e : FaultText) → (stop_status e ≡ 2) ⊎ (stop_status e ≡ 3) ⊎ (stop_status e ≡ 4) ⊎ (stop_status e ≡ 5) ⊎ (stop_status e ≡ 6)
 stop_statuses texts.Usage = search rules
-stop_statuses (texts.Site fault) = search rules
+stop_statuses (texts.Refused refusal) = search rules
 stop_statuses (texts.CannotOpen name) = search rules
 stop_statuses (texts.ReadFailed name) = search rules
 stop_statuses texts.WriteFailed = search rules
@@ -87,58 +87,58 @@ judge_done : (f : Found) (out : Sunk) (work : Work) (n : ℕ) → Completes f ou
 judge_done OtherWords out work n completes is = absurd completes
 judge_done Untold out work n completes is = λ two. elim (done_statuses work.is_intact) [ inl zero ↦ absurd (cc) | inr seven ↦ absurd (cc) ]
 judge_done (Lacking name) out work n completes is = absurd completes
-judge_done (Refused fault) out work n completes is = absurd completes
-judge_done (Given site feeds) out work n completes is = judge_feeds feeds work.is_intact n completes.0.intact is
+judge_done (Refused refusal) out work n completes is = absurd completes
+judge_done (Given s feeds) out work n completes is = judge_feeds feeds work.is_intact n completes.0.intact is
 
 judge_missed : (f : Found) (out : Sunk) (work : Work) → Completes f out work → Judges f 5
 judge_missed OtherWords out work completes = absurd completes
 judge_missed Untold out work completes = λ two. cc
 judge_missed (Lacking name) out work completes = absurd completes
-judge_missed (Refused fault) out work completes = absurd completes
-judge_missed (Given site feeds) out work completes = judge_none feeds 5 (λ e. cc) (λ e. cc) (λ e. cc) (λ e. cc)
+judge_missed (Refused refusal) out work completes = absurd completes
+judge_missed (Given s feeds) out work completes = judge_none feeds 5 (λ e. cc) (λ e. cc) (λ e. cc) (λ e. cc)
 
 judge_usage : (f : Found) → f ≡ OtherWords → Judges f 2
 judge_usage f is = rw is (inl refl)
 
-judge_site : (f : Found) (fault : SiteFault) → RefusesSite f fault → Judges f 3
-judge_site OtherWords fault refuses = absurd refuses
-judge_site Untold fault refuses = λ two. cc
-judge_site (Lacking name) fault refuses = absurd refuses
-judge_site (Refused first) fault refuses = inl refl
-judge_site (Given site feeds) fault refuses = absurd refuses
+judge_refused : (f : Found) (refusal : Refusal) → Refuses f refusal → Judges f 3
+judge_refused OtherWords refusal refuses = absurd refuses
+judge_refused Untold refusal refuses = λ two. cc
+judge_refused (Lacking name) refusal refuses = absurd refuses
+judge_refused (Refused first) refusal refuses = inl refl
+judge_refused (Given s feeds) refusal refuses = absurd refuses
 
 judge_unread : (f : Found) → IsAsked f → Judges f 4
 judge_unread OtherWords asked = absurd asked
 judge_unread Untold asked = λ two. cc
 judge_unread (Lacking name) asked = inl refl
 judge_unread (Refused first) asked = inr (inl refl)
-judge_unread (Given site feeds) asked = judge_none feeds 4 (λ e. cc) (λ e. cc) (λ e. cc) (λ e. cc)
+judge_unread (Given s feeds) asked = judge_none feeds 4 (λ e. cc) (λ e. cc) (λ e. cc) (λ e. cc)
 
 judge_broken : (f : Found) (out : Sunk) → Breaks f out → Judges f 5
 judge_broken OtherWords out breaks = absurd breaks
 judge_broken Untold out breaks = λ two. cc
 judge_broken (Lacking name) out breaks = absurd breaks
 judge_broken (Refused first) out breaks = absurd breaks
-judge_broken (Given site feeds) out breaks = judge_none feeds 5 (λ e. cc) (λ e. cc) (λ e. cc) (λ e. cc)
+judge_broken (Given s feeds) out breaks = judge_none feeds 5 (λ e. cc) (λ e. cc) (λ e. cc) (λ e. cc)
 
 judge_memory : (f : Found) → Judges f 6
 judge_memory OtherWords = inr refl
 judge_memory Untold = λ two. cc
 judge_memory (Lacking name) = inr refl
 judge_memory (Refused first) = inr (inr refl)
-judge_memory (Given site feeds) = judge_none feeds 6 (λ e. cc) (λ e. cc) (λ e. cc) (λ e. cc)
+judge_memory (Given s feeds) = judge_none feeds 6 (λ e. cc) (λ e. cc) (λ e. cc) (λ e. cc)
 
-judged_by : (r : Ran) (e : FaultText) → StopsBy e r → Judges r.found (stop_status e)
-judged_by r texts.Usage stops = judge_usage r.found stops
-judged_by r (texts.Site fault) stops = judge_site r.found fault stops
-judged_by r (texts.CannotOpen name) stops = judge_unread r.found stops.0
-judged_by r (texts.ReadFailed name) stops = judge_unread r.found stops.0
-judged_by r texts.WriteFailed stops = judge_broken r.found r.out stops.1
-judged_by r texts.NoMemory stops = judge_memory r.found
+judged_by : (r : Ran) (e : FaultText) → StopsBy e r → Judges (found_by r) (stop_status e)
+judged_by r texts.Usage stops = judge_usage (found_by r) stops
+judged_by r (texts.Refused refusal) stops = judge_refused (found_by r) refusal stops
+judged_by r (texts.CannotOpen name) stops = judge_unread (found_by r) stops.0
+judged_by r (texts.ReadFailed name) stops = judge_unread (found_by r) stops.0
+judged_by r texts.WriteFailed stops = judge_broken (found_by r) r.out stops.1
+judged_by r texts.NoMemory stops = judge_memory (found_by r)
 
-pub judged_of : (r : Ran) (e : Ending) (n : ℕ) (report : Sunk) → Ends r e → Finishes e n report → Judges r.found n
-judged_of r (Ok work) n report ends (inl tells) = judge_done r.found r.out work n ends tells.status
-judged_of r (Ok work) n report ends (inr misses) = rw misses.status (judge_missed r.found r.out work ends)
+pub judged_of : (r : Ran) (e : Ending) (n : ℕ) (report : Sunk) → Ends r e → Finishes e n report → Judges (found_by r) n
+judged_of r (Ok work) n report ends (inl tells) = judge_done (found_by r) r.out work n ends tells.status
+judged_of r (Ok work) n report ends (inr misses) = rw misses.status (judge_missed (found_by r) r.out work ends)
 judged_of r (Err stopped) n report ends finishes = rw finishes.0 (judged_by r stopped ends)
 
 -- ---- the headline
@@ -147,34 +147,34 @@ serve_done : (f : Found) (out : Sunk) (work : Work) (n : ℕ) → Completes f ou
 serve_done OtherWords out work n completes = tt
 serve_done Untold out work n completes = tt
 serve_done (Lacking name) out work n completes = tt
-serve_done (Refused fault) out work n completes = tt
-serve_done (Given site feeds) out work n completes = record { prefix = whole_is_prefix out.before out.after (reference site feeds) completes.1; done = λ d. completes.1; unbroken = λ e kept. completes.1 }
+serve_done (Refused refusal) out work n completes = tt
+serve_done (Given s feeds) out work n completes = record { prefix = whole_is_prefix out.before out.after (reference s feeds) completes.1; done = λ d. completes.1; unbroken = λ e kept. completes.1 }
 
 serve_unused : (f : Found) (out : Sunk) (n : ℕ) → (IsDone n → ⊥) → n ≢ 5 → out.after ≡ out.before → IfGiven f (Serves n out)
 serve_unused OtherWords out n other uncut same = tt
 serve_unused Untold out n other uncut same = tt
 serve_unused (Lacking name) out n other uncut same = tt
-serve_unused (Refused fault) out n other uncut same = tt
-serve_unused (Given site feeds) out n other uncut same = record { prefix = nothing_is_prefix out.before out.after (reference site feeds) same; done = λ d. absurd (other d); unbroken = λ e kept. absurd (uncut e) }
+serve_unused (Refused refusal) out n other uncut same = tt
+serve_unused (Given s feeds) out n other uncut same = record { prefix = nothing_is_prefix out.before out.after (reference s feeds) same; done = λ d. absurd (other d); unbroken = λ e kept. absurd (uncut e) }
 
 serve_broken : (f : Found) (out : Sunk) → Rose out.faults_before out.faults_after → Breaks f out → IfGiven f (Serves 5 out)
 serve_broken OtherWords out rose breaks = tt
 serve_broken Untold out rose breaks = tt
 serve_broken (Lacking name) out rose breaks = tt
-serve_broken (Refused fault) out rose breaks = tt
-serve_broken (Given site feeds) out rose breaks = record { prefix = breaks; done = λ d. absurd (elim d [ inl zero ↦ cc | inr seven ↦ cc ]); unbroken = λ e kept. absurd (kept rose) }
+serve_broken (Refused refusal) out rose breaks = tt
+serve_broken (Given s feeds) out rose breaks = record { prefix = breaks; done = λ d. absurd (elim d [ inl zero ↦ cc | inr seven ↦ cc ]); unbroken = λ e kept. absurd (kept rose) }
 
 -- want of memory in the middle of the cycles
 serve_halted : (f : Found) (out : Sunk) → Halts f out → IfGiven f (Serves 6 out)
 serve_halted OtherWords out halts = tt
 serve_halted Untold out halts = tt
 serve_halted (Lacking name) out halts = tt
-serve_halted (Refused fault) out halts = tt
-serve_halted (Given site feeds) out halts = record { prefix = halts; done = λ d. absurd (elim d [ inl zero ↦ cc | inr seven ↦ cc ]); unbroken = λ e kept. absurd (cc) }
+serve_halted (Refused refusal) out halts = tt
+serve_halted (Given s feeds) out halts = record { prefix = halts; done = λ d. absurd (elim d [ inl zero ↦ cc | inr seven ↦ cc ]); unbroken = λ e kept. absurd (cc) }
 
 -- a run that stopped before the alerts were written left `out` as it was
 abbrev Unused : Ran → ℕ → Type 0
-Unused r k = (MayWrite r.found k → ⊥) → r.out.after ≡ r.out.before
+Unused r k = (MayWrite (found_by r) k → ⊥) → r.out.after ≡ r.out.before
 
 -- nothing is written at a status that is told before the cycles
 nothing_at : (f : Found) (k : ℕ) → k ≢ 0 → k ≢ 7 → k ≢ 5 → k ≢ 6 → MayWrite f k → ⊥
@@ -184,20 +184,20 @@ nothing_at f k not_intact not_damaged uncut remembered may = elim may [
   | inr (inr memory) ↦ remembered memory.0
 ]
 
-serve_stopped : (r : Ran) (k : ℕ) → k ≢ 0 → k ≢ 7 → k ≢ 5 → k ≢ 6 → Unused r k → IfGiven r.found (Serves k r.out)
+serve_stopped : (r : Ran) (k : ℕ) → k ≢ 0 → k ≢ 7 → k ≢ 5 → k ≢ 6 → Unused r k → IfGiven (found_by r) (Serves k r.out)
 serve_stopped r k not_intact not_damaged uncut remembered unused =
-    serve_unused r.found r.out k (λ done. elim done [ inl zero ↦ not_intact zero | inr seven ↦ not_damaged seven ]) uncut (unused (nothing_at r.found k not_intact not_damaged uncut remembered))
+    serve_unused (found_by r) r.out k (λ done. elim done [ inl zero ↦ not_intact zero | inr seven ↦ not_damaged seven ]) uncut (unused (nothing_at (found_by r) k not_intact not_damaged uncut remembered))
 
-served_by : (r : Ran) (e : FaultText) → StopsBy e r → Unused r (stop_status e) → IfGiven r.found (Serves (stop_status e) r.out)
+served_by : (r : Ran) (e : FaultText) → StopsBy e r → Unused r (stop_status e) → IfGiven (found_by r) (Serves (stop_status e) r.out)
 served_by r texts.Usage stops unused = serve_stopped r 2 (λ e. cc) (λ e. cc) (λ e. cc) (λ e. cc) unused
-served_by r (texts.Site fault) stops unused = serve_stopped r 3 (λ e. cc) (λ e. cc) (λ e. cc) (λ e. cc) unused
+served_by r (texts.Refused refusal) stops unused = serve_stopped r 3 (λ e. cc) (λ e. cc) (λ e. cc) (λ e. cc) unused
 served_by r (texts.CannotOpen name) stops unused = serve_stopped r 4 (λ e. cc) (λ e. cc) (λ e. cc) (λ e. cc) unused
 served_by r (texts.ReadFailed name) stops unused = serve_stopped r 4 (λ e. cc) (λ e. cc) (λ e. cc) (λ e. cc) unused
-served_by r texts.WriteFailed stops unused = serve_broken r.found r.out stops.0 stops.1
-served_by r texts.NoMemory stops unused = serve_halted r.found r.out stops
+served_by r texts.WriteFailed stops unused = serve_broken (found_by r) r.out stops.0 stops.1
+served_by r texts.NoMemory stops unused = serve_halted (found_by r) r.out stops
 
-pub headline_of : (r : Ran) (e : Ending) (n : ℕ) (report : Sunk) → Ends r e → Finishes e n report → Unused r (status_of e) → IfGiven r.found (Serves n r.out)
-headline_of r (Ok work) n report ends finishes unused = serve_done r.found r.out work n ends
+pub headline_of : (r : Ran) (e : Ending) (n : ℕ) (report : Sunk) → Ends r e → Finishes e n report → Unused r (status_of e) → IfGiven (found_by r) (Serves n r.out)
+headline_of r (Ok work) n report ends finishes unused = serve_done (found_by r) r.out work n ends
 headline_of r (Err stopped) n report ends finishes unused = rw finishes.0 (served_by r stopped ends unused)
 
 -- where alert bytes may not have been written, they may not by the ending
@@ -209,9 +209,9 @@ unwritten_by_ending f e n report finishes none may = elim (kept_or_missed e n re
 
 -- ---- the causes of the statuses 4 and 5
 
-unread_by : (r : Ran) (e : FaultText) → StopsBy e r → stop_status e ≡ 4 → IsLacking r.found ⊎ Rose r.world.before r.world.after
+unread_by : (r : Ran) (e : FaultText) → StopsBy e r → stop_status e ≡ 4 → IsLacking (found_by r) ⊎ Rose r.world.before r.world.after
 unread_by r texts.Usage stops is = absurd (cc)
-unread_by r (texts.Site fault) stops is = absurd (cc)
+unread_by r (texts.Refused refusal) stops is = absurd (cc)
 unread_by r (texts.CannotOpen name) stops is = stops.2
 unread_by r (texts.ReadFailed name) stops is = inr stops.2
 unread_by r texts.WriteFailed stops is = absurd (cc)
@@ -221,14 +221,14 @@ done_isnt : (b : Bool) (k : ℕ) → k ≢ 0 → k ≢ 7 → status_done b ≢ k
 done_isnt true k not_intact not_damaged is = not_intact (sym is)
 done_isnt false k not_intact not_damaged is = not_damaged (sym is)
 
-pub unread_of : (r : Ran) (e : Ending) (n : ℕ) (report : Sunk) → Ends r e → Finishes e n report → n ≡ 4 → IsLacking r.found ⊎ Rose r.world.before r.world.after
+pub unread_of : (r : Ran) (e : Ending) (n : ℕ) (report : Sunk) → Ends r e → Finishes e n report → n ≡ 4 → IsLacking (found_by r) ⊎ Rose r.world.before r.world.after
 unread_of r (Ok work) n report ends (inl tells) is = absurd (done_isnt work.is_intact 4 (λ e. cc) (λ e. cc) (sym tells.status ∙ is))
 unread_of r (Ok work) n report ends (inr misses) is = absurd (let missed = misses.status in cc)
 unread_of r (Err stopped) n report ends finishes is = unread_by r stopped ends (sym finishes.0 ∙ is)
 
 unwritten_by : (r : Ran) (e : FaultText) → StopsBy e r → stop_status e ≡ 5 → Rose r.out.faults_before r.out.faults_after
 unwritten_by r texts.Usage stops is = absurd (cc)
-unwritten_by r (texts.Site fault) stops is = absurd (cc)
+unwritten_by r (texts.Refused refusal) stops is = absurd (cc)
 unwritten_by r (texts.CannotOpen name) stops is = absurd (cc)
 unwritten_by r (texts.ReadFailed name) stops is = absurd (cc)
 unwritten_by r texts.WriteFailed stops is = stops.0
@@ -259,46 +259,46 @@ report_done : (f : Found) (out : Sunk) (work : Work) → Completes f out work �
 report_done OtherWords out work completes = absurd completes
 report_done Untold out work completes = completes
 report_done (Lacking name) out work completes = absurd completes
-report_done (Refused fault) out work completes = absurd completes
-report_done (Given site feeds) out work completes = completes.0.report
+report_done (Refused refusal) out work completes = absurd completes
+report_done (Given s feeds) out work completes = completes.0.report
 
 some_report : (f : Found) (out : Sunk) → Breaks f out → (report : List ℕ) × IsReport f report
 some_report OtherWords out breaks = absurd breaks
 some_report Untold out breaks = breaks
 some_report (Lacking name) out breaks = absurd breaks
-some_report (Refused fault) out breaks = absurd breaks
-some_report (Given site feeds) out breaks = (text_of (report_of site feeds), refl)
+some_report (Refused refusal) out breaks = absurd breaks
+some_report (Given s feeds) out breaks = (text_of (report_of s feeds), refl)
 
-refusal_of_site : (f : Found) (fault : SiteFault) → RefusesSite f fault → IsRefusal f (site_text fault)
-refusal_of_site OtherWords fault refuses = absurd refuses
-refusal_of_site Untold fault refuses = (fault, refl)
-refusal_of_site (Lacking name) fault refuses = absurd refuses
-refusal_of_site (Refused first) fault refuses = ap site_text refuses
-refusal_of_site (Given site feeds) fault refuses = absurd refuses
+refusal_told : (f : Found) (refusal : Refusal) → Refuses f refusal → IsRefusal f (refusal_text refusal)
+refusal_told OtherWords refusal refuses = absurd refuses
+refusal_told Untold refusal refuses = (refusal, refl)
+refusal_told (Lacking name) refusal refuses = absurd refuses
+refusal_told (Refused first) refusal refuses = ap refusal_text refuses
+refusal_told (Given s feeds) refusal refuses = absurd refuses
 
 not_done_at : (k : ℕ) → k ≢ 0 → k ≢ 7 → IsDone k → ⊥
 not_done_at k not_intact not_damaged done = elim done [ inl zero ↦ not_intact zero | inr seven ↦ not_damaged seven ]
 
-due_by : (r : Ran) (e : FaultText) → StopsBy e r → IsDue r.found r.names (stop_status e) (text_of_fault e)
+due_by : (r : Ran) (e : FaultText) → StopsBy e r → IsDue r.files r.words (stop_status e) (text_of_fault e)
 due_by r texts.Usage stops = record { done = λ d. absurd (not_done_at 2 (λ e. cc) (λ e. cc) d); usage = λ e. refl; refused = λ e. absurd (cc); unread = λ e. absurd (cc); unwritten = λ e. absurd (cc); memory = λ e. absurd (cc) }
-due_by r (texts.Site fault) stops = record { done = λ d. absurd (not_done_at 3 (λ e. cc) (λ e. cc) d); usage = λ e. absurd (cc); refused = λ e. refusal_of_site r.found fault stops; unread = λ e. absurd (cc); unwritten = λ e. absurd (cc); memory = λ e. absurd (cc) }
+due_by r (texts.Refused refusal) stops = record { done = λ d. absurd (not_done_at 3 (λ e. cc) (λ e. cc) d); usage = λ e. absurd (cc); refused = λ e. refusal_told (found_by r) refusal stops; unread = λ e. absurd (cc); unwritten = λ e. absurd (cc); memory = λ e. absurd (cc) }
 due_by r (texts.CannotOpen name) stops = record { done = λ d. absurd (not_done_at 4 (λ e. cc) (λ e. cc) d); usage = λ e. absurd (cc); refused = λ e. absurd (cc); unread = λ e. (name, stops.1, inl refl); unwritten = λ e. absurd (cc); memory = λ e. absurd (cc) }
 due_by r (texts.ReadFailed name) stops = record { done = λ d. absurd (not_done_at 4 (λ e. cc) (λ e. cc) d); usage = λ e. absurd (cc); refused = λ e. absurd (cc); unread = λ e. (name, stops.1, inr refl); unwritten = λ e. absurd (cc); memory = λ e. absurd (cc) }
 due_by r texts.WriteFailed stops = record { done = λ d. absurd (not_done_at 5 (λ e. cc) (λ e. cc) d); usage = λ e. absurd (cc); refused = λ e. absurd (cc); unread = λ e. absurd (cc); unwritten = λ e. refl; memory = λ e. absurd (cc) }
 due_by r texts.NoMemory stops = record { done = λ d. absurd (not_done_at 6 (λ e. cc) (λ e. cc) d); usage = λ e. absurd (cc); refused = λ e. absurd (cc); unread = λ e. absurd (cc); unwritten = λ e. absurd (cc); memory = λ e. refl }
 
-late_by : (r : Ran) (e : FaultText) (report : Sunk) → StopsBy e r → stop_status e ≡ 5 → (text : List ℕ) × IsReport r.found text × AppendsPrefix report.before report.before text
+late_by : (r : Ran) (e : FaultText) (report : Sunk) → StopsBy e r → stop_status e ≡ 5 → (text : List ℕ) × IsReport (found_by r) text × AppendsPrefix report.before report.before text
 late_by r texts.Usage report stops is = absurd (cc)
-late_by r (texts.Site fault) report stops is = absurd (cc)
+late_by r (texts.Refused refusal) report stops is = absurd (cc)
 late_by r (texts.CannotOpen name) report stops is = absurd (cc)
 late_by r (texts.ReadFailed name) report stops is = absurd (cc)
-late_by r texts.WriteFailed report stops is = (let some = some_report r.found r.out stops.1 in (some.0, some.1, nothing_is_prefix report.before report.before some.0 refl))
+late_by r texts.WriteFailed report stops is = (let some = some_report (found_by r) r.out stops.1 in (some.0, some.1, nothing_is_prefix report.before report.before some.0 refl))
 late_by r texts.NoMemory report stops is = absurd (cc)
 
 abbrev Due : Ran → ℕ → List ℕ → Type 0
-Due r n text = IsDue r.found r.names n text
+Due r n text = IsDue r.files r.words n text
 
-done_due : (r : Ran) (n : ℕ) (text : List ℕ) → IsDone n → IsReport r.found text → Due r n text
+done_due : (r : Ran) (n : ℕ) (text : List ℕ) → IsDone n → IsReport (found_by r) text → Due r n text
 done_due r n text done is = record {
   done = λ d. is;
   usage = λ e. absurd (elim done [ inl zero ↦ cc | inr seven ↦ cc ]);
@@ -311,10 +311,10 @@ done_due r n text done is = record {
 missed_due : (r : Ran) → Due r 5 write_failed_text
 missed_due r = record { done = λ d. absurd (not_done_at 5 (λ e. cc) (λ e. cc) d); usage = λ e. absurd (cc); refused = λ e. absurd (cc); unread = λ e. absurd (cc); unwritten = λ e. refl; memory = λ e. absurd (cc) }
 
-pub told_of : (r : Ran) (e : Ending) (n : ℕ) (report : Sunk) → Ends r e → Finishes e n report → Reports r.found r.names n report
+pub told_of : (r : Ran) (e : Ending) (n : ℕ) (report : Sunk) → Ends r e → Finishes e n report → Reports r.files r.words n report
 told_of r (Ok work) n report ends (inl tells) = record {
   text = work.report.items;
-  due = done_due r n work.report.items (rw tells.status (done_statuses work.is_intact)) (report_done r.found r.out work ends);
+  due = done_due r n work.report.items (rw tells.status (done_statuses work.is_intact)) (report_done (found_by r) r.out work ends);
   middle = report.before;
   alone = λ other. refl;
   late = λ five. absurd (done_isnt work.is_intact 5 (λ e. cc) (λ e. cc) (sym tells.status ∙ five));
@@ -325,7 +325,7 @@ told_of r (Ok work) n report ends (inr misses) = record {
   due = rw misses.status (missed_due r);
   middle = misses.middle;
   alone = λ other. absurd (other misses.status);
-  late = λ five. (work.report.items, report_done r.found r.out work ends, misses.begun);
+  late = λ five. (work.report.items, report_done (found_by r) r.out work ends, misses.begun);
   taken = misses.told;
 }
 told_of r (Err stopped) n report ends finishes = record {

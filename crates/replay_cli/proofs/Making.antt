@@ -13,6 +13,7 @@ use Rattle.std.proofs.lemmas.Int.{ints}
 use Rattle.std.proofs.lemmas.List.{append-nil}
 use Rattle.std.proofs.lemmas.List.Elements.{All-append, All-contains, All-nil}
 use Rattle.outside_io.specs.Bytes.{AppendsPrefix}
+use Rattle.cycle_workers.specs.Settings.{Setting}
 use Rattle.site_params.specs.declared.site.Site.{Site}
 use Rattle.track_motion.specs.declared.rank.Stamped.{Stamped}
 use Rattle.track_table.specs.Held.{Held}
@@ -48,8 +49,8 @@ abbrev pub first_tables : Site → List Content → ℕ → List Frozen
 first_tables site inputs k = tables_of site (stamps site inputs) k
 
 -- what the first cycles came to
-abbrev pub made_first : Site → List Content → ℕ → Made
-made_first site inputs k = record { cycles = k; firsts = told_count (all.count_firsts site (first_tables site inputs k)); messages = told_count (all.count_messages site (first_tables site inputs k)) }
+abbrev pub made_first : Setting → List Content → ℕ → Made
+made_first s inputs k = record { cycles = k; firsts = told_count (all.count_firsts s (first_tables s.site inputs k)); messages = told_count (all.count_messages s (first_tables s.site inputs k)) }
 
 -- a table of the site, which was last taken at a cycle's end or before
 pub record IsTableAt (site : Site) (held : Held) (k : ℕ) : Type 0 where
@@ -59,32 +60,32 @@ pub record IsTableAt (site : Site) (held : Held) (k : ℕ) : Type 0 where
   pub order : ForSome held.frozen (λ last. last ≤ℤ cycle_time site.start site.period k)
 
 -- the first cycles were made, and nothing else
-pub record AreMade (site : Site) (inputs : List Content) (k : ℕ) (cursors : List (List Stamped)) (held : Held) (engine : engines.Held) (made : Made) (old now : Option (List ℕ)) (before after : ℕ) : Type 0 where
-  pub laws : AreLawful site inputs
-  pub left : cursors ≡ map (upcoming k) (stamps_each site inputs)
-  pub of_site : IsTableAt site held k
-  pub put : StandsFor held (told_before k (stamps site inputs))
-  pub seen : All (λ s. IsSeen s.track) (told_before k (stamps site inputs))
-  pub engine_of_site : engine.site ≡ site
+pub record AreMade (s : Setting) (inputs : List Content) (k : ℕ) (cursors : List (List Stamped)) (held : Held) (engine : engines.Held) (made : Made) (old now : Option (List ℕ)) (before after : ℕ) : Type 0 where
+  pub laws : AreLawful s.site inputs
+  pub left : cursors ≡ map (upcoming k) (stamps_each s.site inputs)
+  pub of_site : IsTableAt s.site held k
+  pub put : StandsFor held (told_before k (stamps s.site inputs))
+  pub seen : All (λ s. IsSeen s.track) (told_before k (stamps s.site inputs))
+  pub engine_of_setting : engine.setting ≡ s
   pub next : engine.next ≡ k
-  pub stands : engines.StandsFor engine (first_tables site inputs k)
-  pub bytes : Appends old now (all.alerts site (first_tables site inputs k))
-  pub counted : after ≡ before + all.count_all_examined site (first_tables site inputs k)
-  pub came_to : made ≡ made_first site inputs k
-  pub within : k ≤ cycles site inputs
+  pub stands : engines.StandsFor engine (first_tables s.site inputs k)
+  pub bytes : Appends old now (all.alerts s (first_tables s.site inputs k))
+  pub counted : after ≡ before + all.count_all_examined s.site (first_tables s.site inputs k)
+  pub came_to : made ≡ made_first s inputs k
+  pub within : k ≤ cycles s.site inputs
 
 -- ---- the first cycle
 
-pub none_made : (site : Site) (inputs : List Content) (cursors : List (List Stamped)) (held : Held) (engine : engines.Held) (made : Made) (now : Option (List ℕ)) (steps : ℕ) → AreLawful site inputs → cursors ≡ stamps_each site inputs →
-    held ≡ record { start = site.start; period = site.period; timeout = site.timeout; frozen = None; kept = [] } → StandsFor held [] → engine.site ≡ site → engines.StandsFor engine [] →
-    made ≡ record { cycles = 0; firsts = 0; messages = 0 } → AreMade site inputs 0 cursors held engine made now now steps steps
-none_made site inputs cursors held engine made now steps laws are is put of_site stands none = record {
+pub none_made : (s : Setting) (inputs : List Content) (cursors : List (List Stamped)) (held : Held) (engine : engines.Held) (made : Made) (now : Option (List ℕ)) (steps : ℕ) → AreLawful s.site inputs → cursors ≡ stamps_each s.site inputs →
+    held ≡ record { start = s.site.start; period = s.site.period; timeout = s.site.timeout; frozen = None; kept = [] } → StandsFor held [] → engine.setting ≡ s → engines.StandsFor engine [] →
+    made ≡ record { cycles = 0; firsts = 0; messages = 0 } → AreMade s inputs 0 cursors held engine made now now steps steps
+none_made s inputs cursors held engine made now steps laws are is put of_setting stands none = record {
   laws = laws;
-  left = are ∙ all_at_first (told_of site) (enumerate_from 0 inputs);
+  left = are ∙ all_at_first (told_of s.site) (enumerate_from 0 inputs);
   of_site = record { start = rw is refl; period = rw is refl; timeout = rw is refl; order = rw is (λ time some. absurd (cc)) };
   put = put;
   seen = All-nil (λ (s : Stamped). IsSeen s.track);
-  engine_of_site = of_site;
+  engine_of_setting = of_setting;
   next = stands.next;
   stands = stands;
   bytes = Appends-nil now;
@@ -181,16 +182,16 @@ pub record AreReached (site : Site) (inputs : List Content) (k : ℕ) (cursors :
   pub more : GoesOn site inputs k
   pub put : ArePut site inputs k cursors held
 
-pub are_reached : {site : Site} {inputs : List Content} {k : ℕ} {items : List (List Stamped)} {held : Held} {engine : engines.Held} {made : Made} {old now : Option (List ℕ)} {before after : ℕ} (n : ℕ) (read lent lefts : List (List Stamped)) (new : Held) →
-    AreMade site inputs k items held engine made old now before after → n ≡ k → read ≡ items → list_any (λ left. not (nat_eq (length left) 0)) read ≡ true → lent ≡ items →
-    lefts ≡ map (behind_due n) lent → Puts held new (due_fronts n lent) → All (λ s. IsSeen s.track) (due_fronts n lent) → AreReached site inputs k lefts new
-are_reached {site} {inputs} {k} {items} {held} n read lent lefts new so_far number is_read some is_lent behind puts seen =
+pub are_reached : {s : Setting} {inputs : List Content} {k : ℕ} {items : List (List Stamped)} {held : Held} {engine : engines.Held} {made : Made} {old now : Option (List ℕ)} {before after : ℕ} (n : ℕ) (read lent lefts : List (List Stamped)) (new : Held) →
+    AreMade s inputs k items held engine made old now before after → n ≡ k → read ≡ items → list_any (λ left. not (nat_eq (length left) 0)) read ≡ true → lent ≡ items →
+    lefts ≡ map (behind_due n) lent → Puts held new (due_fronts n lent) → All (λ s. IsSeen s.track) (due_fronts n lent) → AreReached s.site inputs k lefts new
+are_reached {s} {inputs} {k} {items} {held} n read lent lefts new so_far number is_read some is_lent behind puts seen =
     let left : lefts ≡ map (behind_due k) items = behind ∙ ap₂ (λ (m : ℕ) (ls : List (List Stamped)). map (behind_due m) ls) number is_lent in
     let fronts : due_fronts n lent ≡ due_fronts k items = ap₂ (λ (m : ℕ) (ls : List (List Stamped)). due_fronts m ls) number is_lent in
     let put : AllFeedsPut k held new items lefts = record { left = left; put = subst (Puts held new) fronts puts; seen = subst (All (λ (s : Stamped). IsSeen s.track)) fronts seen } in
     record {
-      more = goes_on site inputs k items so_far.laws so_far.left (rw is_read at some);
-      put = are_put site inputs k items lefts held new so_far.laws so_far.left so_far.of_site so_far.put so_far.seen put;
+      more = goes_on s.site inputs k items so_far.laws so_far.left (rw is_read at some);
+      put = are_put s.site inputs k items lefts held new so_far.laws so_far.left so_far.of_site so_far.put so_far.seen put;
     }
 
 pub freezes : {site : Site} {inputs : List Content} {k : ℕ} {cursors : List (List Stamped)} {held : Held} (n : ℕ) → AreReached site inputs k cursors held → n ≡ k → CanFreeze held n
@@ -236,72 +237,72 @@ few_cycles site k timed time =
     let some = timed.period_low in
     few_by_time site.start site.period k (unsigned_abs site.period) timed.start_low (omega (arith, ints)) (omega (arith, ints)) time
 
-one_more_made : (site : Site) (inputs : List Content) (k : ℕ) (frozen : Frozen) (made new : Made) (done : CycleDone) → k + 1 < 2 ^ 62 → frozen ≡ frozen_of site.start site.period site.timeout k (stamps site inputs) → made ≡ made_first site inputs k →
-    done ≡ all.done_of site frozen (first_tables site inputs k) → new ≡ made_with made done → new ≡ made_first site inputs (suc k)
-one_more_made site inputs k frozen made new done few is so_far came more =
+one_more_made : (s : Setting) (inputs : List Content) (k : ℕ) (frozen : Frozen) (made new : Made) (done : CycleDone) → k + 1 < 2 ^ 62 → frozen ≡ frozen_of s.site.start s.site.period s.site.timeout k (stamps s.site inputs) → made ≡ made_first s inputs k →
+    done ≡ all.done_of s frozen (first_tables s.site inputs k) → new ≡ made_with made done → new ≡ made_first s inputs (suc k)
+one_more_made s inputs k frozen made new done few is so_far came more =
     let count : told_count (k + 1) ≡ suc k = omega arith in
-    let firsts = told_sum (all.count_firsts site (first_tables site inputs k)) (all.firsts_in site (first_tables site inputs (suc k))) in
-    let messages = told_sum (all.count_messages site (first_tables site inputs k)) (length (all.events_in site (first_tables site inputs (suc k)))) in
+    let firsts = told_sum (all.count_firsts s (first_tables s.site inputs k)) (all.firsts_in s (first_tables s.site inputs (suc k))) in
+    let messages = told_sum (all.count_messages s (first_tables s.site inputs k)) (length (all.events_in s (first_tables s.site inputs (suc k)))) in
     more
-    ∙ ap₂ made_with so_far (came ∙ ap (λ (f : Frozen). all.done_of site f (first_tables site inputs k)) is)
+    ∙ ap₂ made_with so_far (came ∙ ap (λ (f : Frozen). all.done_of s f (first_tables s.site inputs k)) is)
     ∙ rw (count, firsts, messages) refl
 
 -- what the engine did with the table of a cycle
 pub record IsDone (k : ℕ) (frozen : Frozen) (old new : engines.Held) (done : CycleDone) (before after : Option (List ℕ)) (steps counted : ℕ) : Type 0 where
-  pub bytes : (tables : List Frozen) → engines.StandsFor old tables → Appends before after (all.cycle_alerts old.site (frozen ∷ tables))
+  pub bytes : (tables : List Frozen) → engines.StandsFor old tables → Appends before after (all.cycle_alerts old.setting (frozen ∷ tables))
   pub stands : (tables : List Frozen) → engines.StandsFor old tables → engines.StandsFor new (frozen ∷ tables)
-  pub came_to : (tables : List Frozen) → engines.StandsFor old tables → done ≡ all.done_of old.site frozen tables
+  pub came_to : (tables : List Frozen) → engines.StandsFor old tables → done ≡ all.done_of old.setting frozen tables
   pub count : counted ≡ steps + done.examined
   pub onward : new.next ≡ old.next + 1
-  pub of_site : new.site ≡ old.site
+  pub of_setting : new.setting ≡ old.setting
 
 -- one more cycle was made
-pub one_more : (site : Site) (inputs : List Content) (k : ℕ) (cursors nexts : List (List Stamped)) (held full taken : Held) (frozen : Frozen) (engine after : engines.Held) (made new : Made) (done : CycleDone) (old now then : Option (List ℕ)) (start steps counted : ℕ) →
-    IsTimed site → AreMade site inputs k cursors held engine made old now start steps → GoesOn site inputs k → ArePut site inputs k nexts full → taken ≡ record full { frozen = Some (cycle_time full.start full.period k); kept = taken.kept } →
-    ((puts : List Stamped) → StandsFor full puts → StandsFor taken puts) → IsTaken site inputs k frozen → IsDone k frozen engine after done now then steps counted → new ≡ made_with made done → AreMade site inputs (suc k) nexts taken after new old then start counted
-one_more site inputs k cursors nexts held full taken frozen engine after made new done old now then start steps counted timed so_far more put others stands is does came =
-    let tables : List Frozen = first_tables site inputs k in
-    let grown : frozen ∷ tables ≡ first_tables site inputs (suc k) = ap (λ (f : Frozen). f ∷ tables) is.is in
-    let bytes : Appends now then (all.cycle_alerts site (first_tables site inputs (suc k))) = subst (λ (ts : List Frozen). Appends now then (all.cycle_alerts site ts)) grown
-    (subst (λ (of : Site). Appends now then (all.cycle_alerts of (frozen ∷ tables))) so_far.engine_of_site (does.bytes tables so_far.stands)) in
-    let came_to : done ≡ all.done_of site frozen tables = subst (λ (of : Site). done ≡ all.done_of of frozen tables) so_far.engine_of_site (does.came_to tables so_far.stands) in
-    let examined_here : done.examined ≡ (all.done_of site (frozen_of site.start site.period site.timeout k (stamps site inputs)) tables).examined = ap (λ (d : CycleDone). d.examined) came_to ∙ ap (λ (f : Frozen). (all.done_of site f tables).examined) is.is in
+pub one_more : (s : Setting) (inputs : List Content) (k : ℕ) (cursors nexts : List (List Stamped)) (held full taken : Held) (frozen : Frozen) (engine after : engines.Held) (made new : Made) (done : CycleDone) (old now then : Option (List ℕ)) (start steps counted : ℕ) →
+    IsTimed s.site → AreMade s inputs k cursors held engine made old now start steps → GoesOn s.site inputs k → ArePut s.site inputs k nexts full → taken ≡ record full { frozen = Some (cycle_time full.start full.period k); kept = taken.kept } →
+    ((puts : List Stamped) → StandsFor full puts → StandsFor taken puts) → IsTaken s.site inputs k frozen → IsDone k frozen engine after done now then steps counted → new ≡ made_with made done → AreMade s inputs (suc k) nexts taken after new old then start counted
+one_more s inputs k cursors nexts held full taken frozen engine after made new done old now then start steps counted timed so_far more put others stands is does came =
+    let tables : List Frozen = first_tables s.site inputs k in
+    let grown : frozen ∷ tables ≡ first_tables s.site inputs (suc k) = ap (λ (f : Frozen). f ∷ tables) is.is in
+    let bytes : Appends now then (all.cycle_alerts s (first_tables s.site inputs (suc k))) = subst (λ (ts : List Frozen). Appends now then (all.cycle_alerts s ts)) grown
+    (subst (λ (of : Setting). Appends now then (all.cycle_alerts of (frozen ∷ tables))) so_far.engine_of_setting (does.bytes tables so_far.stands)) in
+    let came_to : done ≡ all.done_of s frozen tables = subst (λ (of : Setting). done ≡ all.done_of of frozen tables) so_far.engine_of_setting (does.came_to tables so_far.stands) in
+    let examined_here : done.examined ≡ (all.done_of s (frozen_of s.site.start s.site.period s.site.timeout k (stamps s.site inputs)) tables).examined = ap (λ (d : CycleDone). d.examined) came_to ∙ ap (λ (f : Frozen). (all.done_of s f tables).examined) is.is in
     let count = does.count in
     let so_many = so_far.counted in
     let within = more.more in
     record {
       laws = so_far.laws;
-      left = subst (λ (n : ℕ). nexts ≡ map (upcoming n) (stamps_each site inputs)) (add-one k) put.left;
-      of_site = later_frozen site inputs k full taken so_far.laws others put.of_site;
-      put = stands (told_before (suc k) (stamps site inputs)) put.put;
+      left = subst (λ (n : ℕ). nexts ≡ map (upcoming n) (stamps_each s.site inputs)) (add-one k) put.left;
+      of_site = later_frozen s.site inputs k full taken so_far.laws others put.of_site;
+      put = stands (told_before (suc k) (stamps s.site inputs)) put.put;
       seen = put.seen;
-      engine_of_site = does.of_site ∙ so_far.engine_of_site;
+      engine_of_setting = does.of_setting ∙ so_far.engine_of_setting;
       next = does.onward ∙ ap (λ (n : ℕ). n + 1) so_far.next ∙ add-one k;
       stands = subst (engines.StandsFor after) grown (does.stands tables so_far.stands);
-      bytes = Appends-trans old now then (all.alerts site tables) (all.cycle_alerts site (first_tables site inputs (suc k))) so_far.bytes bytes;
+      bytes = Appends-trans old now then (all.alerts s tables) (all.cycle_alerts s (first_tables s.site inputs (suc k))) so_far.bytes bytes;
       counted = omega arith;
-      came_to = one_more_made site inputs k frozen made new done (few_cycles site k timed more.time) is.is so_far.came_to came_to came;
+      came_to = one_more_made s inputs k frozen made new done (few_cycles s.site k timed more.time) is.is so_far.came_to came_to came;
       within = omega arith;
     }
 
 -- ---- the end
 
 -- all cycles were made
-pub record AreAllMade (site : Site) (inputs : List Content) (made : Made) (old now : Option (List ℕ)) (before after : ℕ) : Type 0 where
-  pub bytes : Appends old now (alerts site inputs)
-  pub counted : after ≡ before + examined site inputs
-  pub came_to : made ≡ made_of site inputs
+pub record AreAllMade (s : Setting) (inputs : List Content) (made : Made) (old now : Option (List ℕ)) (before after : ℕ) : Type 0 where
+  pub bytes : Appends old now (alerts s inputs)
+  pub counted : after ≡ before + examined s.site inputs
+  pub came_to : made ≡ made_of s inputs
 
-pub all_made : (site : Site) (inputs : List Content) (k : ℕ) (cursors : List (List Stamped)) (held : Held) (engine : engines.Held) (made : Made) (old now : Option (List ℕ)) (before after : ℕ) →
-    AreMade site inputs k cursors held engine made old now before after → list_any (λ left. not (nat_eq (length left) 0)) cursors ≡ false → AreAllMade site inputs made old now before after
-all_made site inputs k cursors held engine made old now before after so_far none =
-    let few : cycles site inputs ≤ k = no_more_cycles k (stamps site inputs) (none_left (told_of site) k (enumerate_from 0 inputs) (rw so_far.left at none)) in
+pub all_made : (s : Setting) (inputs : List Content) (k : ℕ) (cursors : List (List Stamped)) (held : Held) (engine : engines.Held) (made : Made) (old now : Option (List ℕ)) (before after : ℕ) →
+    AreMade s inputs k cursors held engine made old now before after → list_any (λ left. not (nat_eq (length left) 0)) cursors ≡ false → AreAllMade s inputs made old now before after
+all_made s inputs k cursors held engine made old now before after so_far none =
+    let few : cycles s.site inputs ≤ k = no_more_cycles k (stamps s.site inputs) (none_left (told_of s.site) k (enumerate_from 0 inputs) (rw so_far.left at none)) in
     let within = so_far.within in
-    let all_of : k ≡ cycles site inputs = omega arith in
+    let all_of : k ≡ cycles s.site inputs = omega arith in
     record {
-      bytes = subst (λ (n : ℕ). Appends old now (all.alerts site (first_tables site inputs n))) all_of so_far.bytes;
-      counted = subst (λ (n : ℕ). after ≡ before + all.count_all_examined site (first_tables site inputs n)) all_of so_far.counted;
-      came_to = subst (λ (n : ℕ). made ≡ made_first site inputs n) all_of so_far.came_to;
+      bytes = subst (λ (n : ℕ). Appends old now (all.alerts s (first_tables s.site inputs n))) all_of so_far.bytes;
+      counted = subst (λ (n : ℕ). after ≡ before + all.count_all_examined s.site (first_tables s.site inputs n)) all_of so_far.counted;
+      came_to = subst (λ (n : ℕ). made ≡ made_first s inputs n) all_of so_far.came_to;
     }
 
 -- ---- a stop before it
@@ -311,49 +312,49 @@ pub record BeginsWith (bytes first : List ℕ) : Type 0 where
   pub rest : List ℕ
   pub whole : bytes ≡ first ++ rest
 
-begins_after : (site : Site) (inputs : List Content) (k n : ℕ) → BeginsWith (all.alerts site (first_tables site inputs (n + k))) (all.alerts site (first_tables site inputs k))
-begins_after site inputs k zero =
+begins_after : (s : Setting) (inputs : List Content) (k n : ℕ) → BeginsWith (all.alerts s (first_tables s.site inputs (n + k))) (all.alerts s (first_tables s.site inputs k))
+begins_after s inputs k zero =
     let none : 0 + k ≡ k = omega arith in
-    record { rest = []; whole = ap (λ (m : ℕ). all.alerts site (first_tables site inputs m)) none ∙ sym (append-nil (all.alerts site (first_tables site inputs k))) }
-begins_after site inputs k (suc n) =
-    let before = begins_after site inputs k n in
-    let more : List ℕ = all.cycle_alerts site (first_tables site inputs (suc (n + k))) in
+    record { rest = []; whole = ap (λ (m : ℕ). all.alerts s (first_tables s.site inputs m)) none ∙ sym (append-nil (all.alerts s (first_tables s.site inputs k))) }
+begins_after s inputs k (suc n) =
+    let before = begins_after s inputs k n in
+    let more : List ℕ = all.cycle_alerts s (first_tables s.site inputs (suc (n + k))) in
     let next : suc n + k ≡ suc (n + k) = omega arith in
     record {
       rest = before.rest ++ more;
-      whole = ap (λ (m : ℕ). all.alerts site (first_tables site inputs m)) next ∙ ap (λ (bs : List ℕ). bs ++ more) before.whole ∙ append_assoc (all.alerts site (first_tables site inputs k)) before.rest more;
+      whole = ap (λ (m : ℕ). all.alerts s (first_tables s.site inputs m)) next ∙ ap (λ (bs : List ℕ). bs ++ more) before.whole ∙ append_assoc (all.alerts s (first_tables s.site inputs k)) before.rest more;
     }
 
-begins_with : (site : Site) (inputs : List Content) (k : ℕ) → k ≤ cycles site inputs → BeginsWith (alerts site inputs) (all.alerts site (first_tables site inputs k))
-begins_with site inputs k within =
-    let left : (cycles site inputs - k) + k ≡ cycles site inputs = omega arith in
-    subst (λ (m : ℕ). BeginsWith (all.alerts site (first_tables site inputs m)) (all.alerts site (first_tables site inputs k))) left (begins_after site inputs k (cycles site inputs - k))
+begins_with : (s : Setting) (inputs : List Content) (k : ℕ) → k ≤ cycles s.site inputs → BeginsWith (alerts s inputs) (all.alerts s (first_tables s.site inputs k))
+begins_with s inputs k within =
+    let left : (cycles s.site inputs - k) + k ≡ cycles s.site inputs = omega arith in
+    subst (λ (m : ℕ). BeginsWith (all.alerts s (first_tables s.site inputs m)) (all.alerts s (first_tables s.site inputs k))) left (begins_after s inputs k (cycles s.site inputs - k))
 
 is_prefix : (old now : Option (List ℕ)) (bytes first : List ℕ) → BeginsWith bytes first → Appends old now first → AppendsPrefix old now bytes
 is_prefix old now bytes first begins appends = (length first, subst (Appends old now) (sym (ap (take (length first)) begins.whole ∙ take-append_seam first begins.rest)) appends)
 
 -- the cycles so far are a prefix of all
-pub prefix_made : (site : Site) (inputs : List Content) (k : ℕ) (cursors : List (List Stamped)) (held : Held) (engine : engines.Held) (made : Made) (old now : Option (List ℕ)) (before after : ℕ) →
-    AreMade site inputs k cursors held engine made old now before after → AppendsPrefix old now (alerts site inputs)
-prefix_made site inputs k cursors held engine made old now before after so_far =
-    is_prefix old now (alerts site inputs) (all.alerts site (first_tables site inputs k)) (begins_with site inputs k so_far.within) so_far.bytes
+pub prefix_made : (s : Setting) (inputs : List Content) (k : ℕ) (cursors : List (List Stamped)) (held : Held) (engine : engines.Held) (made : Made) (old now : Option (List ℕ)) (before after : ℕ) →
+    AreMade s inputs k cursors held engine made old now before after → AppendsPrefix old now (alerts s inputs)
+prefix_made s inputs k cursors held engine made old now before after so_far =
+    is_prefix old now (alerts s inputs) (all.alerts s (first_tables s.site inputs k)) (begins_with s inputs k so_far.within) so_far.bytes
 
 -- and so are they with a prefix of the next
-pub prefix_cut : (site : Site) (inputs : List Content) (k : ℕ) (cursors : List (List Stamped)) (held : Held) (frozen : Frozen) (engine : engines.Held) (made : Made) (old now then : Option (List ℕ)) (before after : ℕ) →
-    AreMade site inputs k cursors held engine made old now before after → GoesOn site inputs k → IsTaken site inputs k frozen →
-    ((tables : List Frozen) → engines.StandsFor engine tables → AppendsPrefix now then (all.cycle_alerts engine.site (frozen ∷ tables))) → AppendsPrefix old then (alerts site inputs)
-prefix_cut site inputs k cursors held frozen engine made old now then before after so_far more is cut =
-    let tables : List Frozen = first_tables site inputs k in
-    let first : List ℕ = all.alerts site tables in
-    let next : List ℕ = all.cycle_alerts site (first_tables site inputs (suc k)) in
-    let of_site : AppendsPrefix now then (all.cycle_alerts site (frozen ∷ tables)) = subst (λ (of : Site). AppendsPrefix now then (all.cycle_alerts of (frozen ∷ tables))) so_far.engine_of_site (cut tables so_far.stands) in
-    let here : AppendsPrefix now then next = subst (λ (f : Frozen). AppendsPrefix now then (all.cycle_alerts site (f ∷ tables))) is.is of_site in
+pub prefix_cut : (s : Setting) (inputs : List Content) (k : ℕ) (cursors : List (List Stamped)) (held : Held) (frozen : Frozen) (engine : engines.Held) (made : Made) (old now then : Option (List ℕ)) (before after : ℕ) →
+    AreMade s inputs k cursors held engine made old now before after → GoesOn s.site inputs k → IsTaken s.site inputs k frozen →
+    ((tables : List Frozen) → engines.StandsFor engine tables → AppendsPrefix now then (all.cycle_alerts engine.setting (frozen ∷ tables))) → AppendsPrefix old then (alerts s inputs)
+prefix_cut s inputs k cursors held frozen engine made old now then before after so_far more is cut =
+    let tables : List Frozen = first_tables s.site inputs k in
+    let first : List ℕ = all.alerts s tables in
+    let next : List ℕ = all.cycle_alerts s (first_tables s.site inputs (suc k)) in
+    let of_setting : AppendsPrefix now then (all.cycle_alerts s (frozen ∷ tables)) = subst (λ (of : Setting). AppendsPrefix now then (all.cycle_alerts of (frozen ∷ tables))) so_far.engine_of_setting (cut tables so_far.stands) in
+    let here : AppendsPrefix now then next = subst (λ (f : Frozen). AppendsPrefix now then (all.cycle_alerts s (f ∷ tables))) is.is of_setting in
     let count : ℕ = here.0 in
     let part : List ℕ = take count next in
     let further = more.more in
-    let begins = begins_with site inputs (suc k) (omega arith) in
+    let begins = begins_with s inputs (suc k) (omega arith) in
     let split : first ++ next ≡ (first ++ part) ++ drop count next = ap (λ (bs : List ℕ). first ++ bs) (sym (take-append-drop count next)) ∙ sym (append_assoc first part (drop count next)) in
-    is_prefix old then (alerts site inputs) (first ++ part)
+    is_prefix old then (alerts s inputs) (first ++ part)
     (record { rest = drop count next ++ begins.rest; whole = begins.whole ∙ ap (λ (bs : List ℕ). bs ++ begins.rest) split ∙ append_assoc (first ++ part) (drop count next) begins.rest })
     (Appends-trans old now then first part so_far.bytes here.1)
 

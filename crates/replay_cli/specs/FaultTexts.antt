@@ -2,9 +2,13 @@
 use Rattle.std.specs.Prelude.{ℕ, List, [], ◌∷◌, codes, decimal}
 use Rattle.std.specs.Fmt.{signed_decimal}
 use Rattle.std.specs.List.{concat}
-use Rattle.site_params.specs.declared.fault.Field.{Field}
-use Rattle.site_params.specs.declared.fault.SiteFault.{SiteFault}
-use Rattle.site_params.specs.declared.fault.SiteFault.TheVariants as fault
+use Rattle.site_fields.specs.declared.fault.Field.{Field}
+use Rattle.site_fields.specs.declared.fault.SiteFault.{SiteFault}
+use Rattle.site_fields.specs.declared.fault.SiteFault.TheVariants as fault
+use Rattle.terrain_file.specs.declared.fault.TerrainFault.{TerrainFault}
+use Rattle.terrain_file.specs.declared.fault.TerrainFault.TheVariants as terrain
+use Rattle.replay_cli.specs.declared.texts.Refusal.{Refusal}
+use Rattle.replay_cli.specs.declared.texts.Refusal.TheVariants as of
 use Rattle.replay_cli.specs.declared.texts.FaultText.{FaultText}
 use Rattle.replay_cli.specs.declared.texts.FaultText.TheVariants as told
 
@@ -40,12 +44,27 @@ site_text (fault.Range field value) = refused 4 (at_field field (codes " value "
 site_text (fault.Twice field first) = refused 5 (at_field field (codes " first " ∷ decimal first ∷ codes "\n" ∷ []))
 site_text (fault.NoSuchName field) = refused 6 (at_field field (codes "\n" ∷ []))
 site_text fault.Long = refused 7 (codes "\n" ∷ [])
-site_text (fault.NotBuilt field) = refused 8 (at_field field (codes "\n" ∷ []))
 site_text fault.NoMemory = out_of_memory_text
+
+-- two numbers that are told of a terrain's fault, each behind its words
+abbrev pub terrain_refused : List ℕ → ℕ → List ℕ → ℕ → List ℕ
+terrain_refused words first more second = concat (words ∷ decimal first ∷ more ∷ decimal second ∷ codes "\n" ∷ [])
+
+abbrev pub terrain_text : TerrainFault → List ℕ
+terrain_text terrain.Magic = codes "terrain refused: 1\n"
+terrain_text (terrain.Cell side) = concat (codes "terrain refused: 2 side " ∷ decimal side ∷ codes "\n" ∷ [])
+terrain_text (terrain.Count columns rows) = terrain_refused (codes "terrain refused: 3 columns ") columns (codes " rows ") rows
+terrain_text (terrain.Size stated found) = terrain_refused (codes "terrain refused: 4 stated ") stated (codes " found ") found
+terrain_text terrain.NoMemory = out_of_memory_text
+
+-- why a file is refused
+abbrev pub refusal_text : Refusal → List ℕ
+refusal_text (of.Site fault) = site_text fault
+refusal_text (of.Terrain fault) = terrain_text fault
 
 abbrev pub text_of_fault : FaultText → List ℕ
 text_of_fault told.Usage = usage_text
-text_of_fault (told.Site fault) = site_text fault
+text_of_fault (told.Refused refusal) = refusal_text refusal
 text_of_fault (told.CannotOpen name) = cannot_open name
 text_of_fault (told.ReadFailed name) = read_failed name
 text_of_fault told.WriteFailed = write_failed_text

@@ -1,14 +1,20 @@
 -- What a run finds: what its words ask for, and what the world tells of the names in them (this project's profile).
-use Rattle.std.specs.Prelude.{ℕ, List, [], ◌∷◌, Option, Some, None, Result, Ok, Err}
+use Rattle.std.specs.Prelude.{◌≡◌, ◌⊎◌, ℕ, List, ◌∷◌, Contains, Option, Some, None, Result, Ok, Err}
 use Rattle.std.specs.List.{filter_map}
 use Rattle.std.specs.Option.{option_map}
 use Rattle.outside_io.specs.Names.{bytes_of}
-use Rattle.site_params.specs.declared.fault.SiteFault.{SiteFault}
+use Rattle.cycle_workers.specs.Settings.{Setting, setting}
 use Rattle.site_params.specs.declared.site.Site.{Site}
-use Rattle.site_params.specs.Kinds.{Reading}
+use Rattle.site_fields.specs.Kinds.{Reading}
 use Rattle.site_params.specs.Site.{site_of_text}
 use Rattle.replay_cli.specs.Plans.{plan_of}
-use Rattle.replay_cli.specs.Run.{Files, first_lacking, read_of}
+use Rattle.terrain_file.specs.Terrain.{no_terrain, terrain_of}
+use Rattle.terrain_file.specs.declared.fault.TerrainFault.{TerrainFault}
+use Rattle.terrain_file.specs.declared.terrain.Terrain.{Terrain}
+use Rattle.replay_cli.specs.Run.{Files, first_lacking, read_of, terrain_read}
+use Rattle.replay_cli.specs.Stops.{IsReading}
+use Rattle.replay_cli.specs.declared.texts.Refusal.{Refusal}
+use Rattle.replay_cli.specs.declared.texts.Refusal.TheVariants as of
 use Rattle.replay_cli.specs.declared.request.Request.{Request}
 use Rattle.replay_cli.specs.declared.words.plan.Plan.{Plan}
 use Rattle.replay_cli.specs.declared.words.plan.Plan.TheVariants.{Replay, Run}
@@ -31,24 +37,35 @@ pub data Found : Type 0 where
   Untold : Found
   -- the world lacks this name
   Lacking : List ℕ → Found
-  -- the site file is refused
-  Refused : SiteFault → Found
-  -- the site, and what is read of each feed
-  Given : Site → List (List ℕ) → Found
+  -- the site file or the terrain file is refused
+  Refused : Refusal → Found
+  -- the site with its terrain, and what is read of each feed
+  Given : Setting → List (List ℕ) → Found
 
--- under an accepted site
-abbrev pub found_unless : Option (List ℕ) → Site → List (List ℕ) → Found
-found_unless (Some name) site feeds = Lacking name
-found_unless None site feeds = Given site feeds
+-- under an accepted site with its terrain
+abbrev pub found_unless : Option (List ℕ) → Setting → List (List ℕ) → Found
+found_unless (Some name) s feeds = Lacking name
+found_unless None s feeds = Given s feeds
 
-abbrev pub found_feeds : Files → Site → List (List ℕ) → Found
-found_feeds files site names = found_unless (first_lacking files names) site (filter_map (read_of files) names)
+abbrev pub found_feeds : Files → Setting → List (List ℕ) → Found
+found_feeds files s names = found_unless (first_lacking files names) s (filter_map (read_of files) names)
+
+-- under an accepted site, by what the terrain's file is
+abbrev pub found_terrain : Files → Site → List (List ℕ) → List ℕ → Option (Result Terrain TerrainFault) → Found
+found_terrain files site names name None = Lacking name
+found_terrain files site names name (Some (Err fault)) = Refused (of.Terrain fault)
+found_terrain files site names name (Some (Ok terrain)) = found_feeds files (setting site terrain) names
+
+-- by the name of the terrain that the site gives
+abbrev pub found_ground : Files → Site → List (List ℕ) → Option (List ℕ) → Found
+found_ground files site names None = found_feeds files (setting site no_terrain) names
+found_ground files site names (Some name) = found_terrain files site names name (option_map (λ bytes. terrain_of (terrain_read bytes)) (bytes_of name files))
 
 -- by what the site's file is
 abbrev pub found_site : Files → Request → Option (Reading Site) → Found
 found_site files r None = Lacking r.site
-found_site files r (Some (Err fault)) = Refused fault
-found_site files r (Some (Ok site)) = found_feeds files site r.feeds
+found_site files r (Some (Err fault)) = Refused (of.Site fault)
+found_site files r (Some (Ok site)) = found_ground files site r.feeds site.terrain
 
 abbrev pub found_names : Option Files → Request → Found
 found_names None r = Untold
@@ -61,23 +78,23 @@ found_of files (Some r) = found_names files r
 abbrev pub found : Option Files → List (List ℕ) → Found
 found files words = found_of files (request words)
 
--- the names that the words give
-abbrev pub names_of : Option Request → List (List ℕ)
-names_of None = []
-names_of (Some r) = r.site ∷ r.feeds
+-- a name that the words give, or the accepted site under the first of them
+abbrev pub IsNamed : Option Files → Option Request → List ℕ → Type 0
+IsNamed files None name = ⊥
+IsNamed files (Some r) name = Contains (r.site ∷ r.feeds) name ⊎ ((site : Site) × IsReading files r.site (Ok site) × (site.terrain ≡ Some name))
 
--- what holds of the site and the feeds, where these are told
-abbrev pub IfGiven : Found → (Site → List (List ℕ) → Type 0) → Type 0
-IfGiven (Given site feeds) P = P site feeds
+-- what holds of the site with its terrain and of the feeds, where these are told
+abbrev pub IfGiven : Found → (Setting → List (List ℕ) → Type 0) → Type 0
+IfGiven (Given s feeds) P = P s feeds
 IfGiven OtherWords P = Unit {0}
 IfGiven Untold P = Unit {0}
 IfGiven (Lacking name) P = Unit {0}
-IfGiven (Refused fault) P = Unit {0}
+IfGiven (Refused refusal) P = Unit {0}
 
 -- a name is lacking
 abbrev pub IsLacking : Found → Type 0
 IsLacking (Lacking name) = Unit {0}
 IsLacking OtherWords = ⊥
 IsLacking Untold = ⊥
-IsLacking (Refused fault) = ⊥
-IsLacking (Given site feeds) = ⊥
+IsLacking (Refused refusal) = ⊥
+IsLacking (Given s feeds) = ⊥

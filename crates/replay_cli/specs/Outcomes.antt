@@ -1,16 +1,17 @@
 -- What each exit status says of what the run found, and what the two sinks took (this project's profile).
-use Rattle.std.specs.Prelude.{◌≡◌, ◌≢◌, ◌⊎◌, ℕ, ◌+◌, true, false, List, map, Option, Contains}
+use Rattle.std.specs.Prelude.{◌≡◌, ◌≢◌, ◌⊎◌, ℕ, ◌+◌, true, false, List, map, Option}
 use Rattle.std.specs.Io.KnownBytes.{Appends}
 use Rattle.outside_io.specs.Bytes.{AppendsPrefix}
 use Rattle.outside_io.specs.Faults.{Rose}
-use Rattle.site_params.specs.declared.fault.SiteFault.{SiteFault}
-use Rattle.site_params.specs.declared.site.Site.{Site}
+use Rattle.cycle_workers.specs.Settings.{Setting}
 use Rattle.replay_cli.specs.Content.{content, feeds_are_intact}
-use Rattle.replay_cli.specs.FaultTexts.{cannot_open, out_of_memory_text, read_failed, site_text, usage_text, write_failed_text}
-use Rattle.replay_cli.specs.Found.{Found, OtherWords, Untold, Lacking, Refused, Given}
+use Rattle.replay_cli.specs.FaultTexts.{cannot_open, out_of_memory_text, read_failed, refusal_text, usage_text, write_failed_text}
+use Rattle.replay_cli.specs.Found.{Found, OtherWords, Untold, Lacking, Refused, Given, IsNamed, found, request}
 use Rattle.replay_cli.specs.Reference.{examined, reference}
 use Rattle.replay_cli.specs.Counts.{report_of}
 use Rattle.replay_cli.specs.ReportText.{text_of}
+use Rattle.replay_cli.specs.Run.{Files}
+use Rattle.replay_cli.specs.declared.texts.Refusal.{Refusal}
 use Rattle.replay_cli.specs.declared.report.counts.Report.{Report}
 
 -- the work was done: nothing of the feeds is refused and each ends behind a whole block, or not
@@ -21,7 +22,7 @@ IsDone status = (status ≡ 0) ⊎ (status ≡ 7)
 abbrev pub IsRefused : ℕ → Type 0
 IsRefused status = (status ≡ 3) ⊎ (status ≡ 4) ⊎ (status ≡ 6)
 
--- what a status says of feeds under an accepted site: at 0 they are intact, and at 7 they aren't
+-- what a status says of feeds under an accepted site and an accepted terrain: at 0 they are intact, and at 7 they aren't
 pub record JudgesFeeds (feeds : List (List ℕ)) (status : ℕ) : Type 0 where
   pub words : status ≢ 2
   pub accepted : status ≢ 3
@@ -33,8 +34,8 @@ abbrev pub Judges : Found → ℕ → Type 0
 Judges OtherWords status = (status ≡ 2) ⊎ (status ≡ 6)
 Judges Untold status = status ≢ 2
 Judges (Lacking name) status = (status ≡ 4) ⊎ (status ≡ 6)
-Judges (Refused fault) status = IsRefused status
-Judges (Given site feeds) status = JudgesFeeds feeds status
+Judges (Refused refusal) status = IsRefused status
+Judges (Given s feeds) status = JudgesFeeds feeds status
 
 -- a sink before a run and after it: what it took, and its count of faults
 pub record Sunk : Type 0 where
@@ -54,20 +55,20 @@ pub record WritesAlerts (status : ℕ) (out : Sunk) (alerts : List ℕ) : Type 0
   pub unbroken : status ≡ 5 → (Rose out.faults_before out.faults_after → ⊥) → Appends out.before out.after alerts
 
 -- they are the reference's
-abbrev pub Serves : ℕ → Sunk → Site → List (List ℕ) → Type 0
-Serves status out site feeds = WritesAlerts status out (reference site feeds)
+abbrev pub Serves : ℕ → Sunk → Setting → List (List ℕ) → Type 0
+Serves status out s feeds = WritesAlerts status out (reference s feeds)
 
 -- as many steps were taken as the reference examines pairs
-abbrev pub CountsPairs : ℕ → ℕ → Site → List (List ℕ) → Type 0
-CountsPairs before after site feeds = after ≡ before + examined site (map content feeds)
+abbrev pub CountsPairs : ℕ → ℕ → Setting → List (List ℕ) → Type 0
+CountsPairs before after s feeds = after ≡ before + examined s.site (map content feeds)
 
--- the words, the site and the feeds were accepted, and cycles are made
+-- the words, the site, the terrain and the feeds were accepted, and cycles are made
 abbrev pub HasBegun : Found → Type 0
 HasBegun OtherWords = ⊥
 HasBegun Untold = Unit {0}
 HasBegun (Lacking name) = ⊥
-HasBegun (Refused fault) = ⊥
-HasBegun (Given site feeds) = Unit {0}
+HasBegun (Refused refusal) = ⊥
+HasBegun (Given s feeds) = Unit {0}
 
 -- alert bytes may have been written
 abbrev pub MayWrite : Found → ℕ → Type 0
@@ -77,30 +78,30 @@ MayWrite found status = IsDone status ⊎ (status ≡ 5) ⊎ ((status ≡ 6) × 
 
 -- the report of the feeds, where they are told
 abbrev pub IsReport : Found → List ℕ → Type 0
-IsReport (Given site feeds) text = text ≡ text_of (report_of site feeds)
+IsReport (Given s feeds) text = text ≡ text_of (report_of s feeds)
 IsReport OtherWords text = ⊥
 IsReport Untold text = (report : Report) × (text ≡ text_of report)
 IsReport (Lacking name) text = ⊥
-IsReport (Refused fault) text = ⊥
+IsReport (Refused refusal) text = ⊥
 
--- why the site is refused
+-- why the site or the terrain is refused
 abbrev pub IsRefusal : Found → List ℕ → Type 0
-IsRefusal (Given site feeds) text = ⊥
+IsRefusal (Given s feeds) text = ⊥
 IsRefusal OtherWords text = ⊥
-IsRefusal Untold text = (fault : SiteFault) × (text ≡ site_text fault)
+IsRefusal Untold text = (refusal : Refusal) × (text ≡ refusal_text refusal)
 IsRefusal (Lacking name) text = ⊥
-IsRefusal (Refused fault) text = text ≡ site_text fault
+IsRefusal (Refused refusal) text = text ≡ refusal_text refusal
 
 -- which of the names wasn't opened or read
-abbrev pub IsUnread : List (List ℕ) → List ℕ → Type 0
-IsUnread names text = (name : List ℕ) × Contains names name × ((text ≡ cannot_open name) ⊎ (text ≡ read_failed name))
+abbrev pub IsUnread : Option Files → List (List ℕ) → List ℕ → Type 0
+IsUnread files words text = (name : List ℕ) × IsNamed files (request words) name × ((text ≡ cannot_open name) ⊎ (text ≡ read_failed name))
 
 -- the text that is due at a status
-pub record IsDue (found : Found) (names : List (List ℕ)) (status : ℕ) (text : List ℕ) : Type 0 where
-  pub done : IsDone status → IsReport found text
+pub record IsDue (files : Option Files) (words : List (List ℕ)) (status : ℕ) (text : List ℕ) : Type 0 where
+  pub done : IsDone status → IsReport (found files words) text
   pub usage : status ≡ 2 → text ≡ usage_text
-  pub refused : status ≡ 3 → IsRefusal found text
-  pub unread : status ≡ 4 → IsUnread names text
+  pub refused : status ≡ 3 → IsRefusal (found files words) text
+  pub unread : status ≡ 4 → IsUnread files words text
   pub unwritten : status ≡ 5 → text ≡ write_failed_text
   pub memory : status ≡ 6 → text ≡ out_of_memory_text
 
@@ -110,10 +111,10 @@ pub record Takes (from : Option (List ℕ)) (sink : Sunk) (text : List ℕ) : Ty
   pub whole : (Rose sink.faults_before sink.faults_after → ⊥) → Appends from sink.after text
 
 -- the text due was taken; where a write failed, a prefix of the report may stand before it
-pub record Reports (found : Found) (names : List (List ℕ)) (status : ℕ) (sink : Sunk) : Type 0 where
+pub record Reports (files : Option Files) (words : List (List ℕ)) (status : ℕ) (sink : Sunk) : Type 0 where
   pub text : List ℕ
-  pub due : IsDue found names status text
+  pub due : IsDue files words status text
   pub middle : Option (List ℕ)
   pub alone : status ≢ 5 → middle ≡ sink.before
-  pub late : status ≡ 5 → (report : List ℕ) × IsReport found report × AppendsPrefix sink.before middle report
+  pub late : status ≡ 5 → (report : List ℕ) × IsReport (found files words) report × AppendsPrefix sink.before middle report
   pub taken : Takes middle sink text

@@ -4,6 +4,7 @@ use Rattle.std.specs.List.{enumerate_from, filter_map, flat_map}
 use Rattle.cat062_read.specs.Tracks.{track_of}
 use Rattle.cat062_read.specs.declared.record.Raw062.{Raw062}
 use Rattle.cycle_engine.specs.Cycles as all
+use Rattle.cycle_workers.specs.Settings.{Setting}
 use Rattle.track_motion.specs.declared.rank.Stamped.{Stamped}
 use Rattle.track_motion.specs.declared.track.Track.{Track}
 use Rattle.track_table.specs.Proper.{frozen_of}
@@ -45,11 +46,11 @@ abbrev pub tables : Site → List Content → List Frozen
 tables site feeds = tables_of site (stamps site feeds) (cycles site feeds)
 
 -- the alert bytes of all cycles
-abbrev pub alerts : Site → List Content → List ℕ
-alerts site feeds = all.alerts site (tables site feeds)
+abbrev pub alerts : Setting → List Content → List ℕ
+alerts s feeds = all.alerts s (tables s.site feeds)
 
-abbrev pub reference : Site → List (List ℕ) → List ℕ
-reference site feeds = alerts site (map content feeds)
+abbrev pub reference : Setting → List (List ℕ) → List ℕ
+reference s feeds = alerts s (map content feeds)
 
 -- how many pairs are examined in all cycles
 abbrev pub examined : Site → List Content → ℕ

@@ -2,7 +2,7 @@
 use Rattle.std.specs.Prelude.{◌≡◌, List}
 use Rattle.cycle_engine.specs.declared.engine.CycleFault as cycle
 use Rattle.cycle_engine.specs.declared.engine.CycleFault.TheVariants as cycles
-use Rattle.site_params.specs.declared.site.Site.{Site}
+use Rattle.cycle_workers.specs.Settings.{Setting}
 use Rattle.replay_cli.specs.Content.{Content, are_intact}
 use Rattle.replay_cli.specs.Counts.{report_in}
 use Rattle.replay_cli.specs.ReportText.{text_of}
@@ -16,6 +16,6 @@ GivesFault cycles.NoMemory e = e ≡ NoMemory
 GivesFault cycles.WriteFault e = e ≡ WriteFailed
 
 -- the text of the report on feeds of these contents, and whether they are intact
-pub record IsWork (site : Site) (feeds : List Content) (work : Work) : Type 0 where
-  pub report : work.report.items ≡ text_of (report_in site feeds)
+pub record IsWork (s : Setting) (feeds : List Content) (work : Work) : Type 0 where
+  pub report : work.report.items ≡ text_of (report_in s feeds)
   pub intact : work.is_intact ≡ are_intact feeds

@@ -4,7 +4,9 @@ ghost use Rattle.std.specs.Io.KnownBytes.{Appends};
 ghost use Rattle.std.specs.List.{list_any};
 ghost use Rattle.outside_io.specs.Bytes.{AppendsPrefix};
 ghost use Rattle.outside_io.specs.Faults.{Rose};
+ghost use Rattle.cycle_workers.specs.Settings.{setting};
 ghost use Rattle.site_params.specs.Ranges.{IsSite};
+ghost use Rattle.terrain_file.specs.Ranges.{IsTerrain};
 ghost use Rattle.replay_cli.specs.Counts.{made_of};
 ghost use Rattle.replay_cli.specs.Cursors.{IsSeen};
 ghost use Rattle.replay_cli.specs.Cycling.{behind_due, due_front, due_fronts, made_with, stamps_each};
@@ -20,6 +22,7 @@ use outside_io::{Sink, Steps};
 use site_params::Site;
 use std::alloc::Global;
 use std::sync::ledger::Ledger;
+use terrain_file::Terrain;
 use track_table::Table;
 use track_table::laws::{
     cycles_in_order, feeds_are_ranked, feeds_keep_to_time, stamps_one_by_one, tables_are_proper,
@@ -100,17 +103,19 @@ fn with_cycle(made: Made, done: CycleDone) -> Made
 pub fn make_cycles<K: Sink, L: Ledger>(
     alloc: Global,
     site: &Site,
+    terrain: &Terrain,
     inputs: &[Input],
     out: &mut K,
     steps: &mut Steps<L>,
 ) -> Result<Made, CycleFault>
     requires site { IsSite site.now }
+    requires terrain { IsTerrain terrain.now }
     requires tellable { AreTellable inputs.now }
     requires few { length inputs.now ≤ MOST_FEEDS }
-    ensures alerts { OnOk result (Appends (K.taken out.old) (K.taken out.new) (alerts site.now inputs.now)) }
-    ensures made { IfOk result (λ made. made ≡ made_of site.now inputs.now) }
+    ensures alerts { OnOk result (Appends (K.taken out.old) (K.taken out.new) (alerts (setting site.now terrain.now) inputs.now)) }
+    ensures made { IfOk result (λ made. made ≡ made_of (setting site.now terrain.now) inputs.now) }
     ensures counted { OnOk result (steps.new ≡ steps.old + examined site.now inputs.now) }
-    ensures prefix { OnErr result (AppendsPrefix (K.taken out.old) (K.taken out.new) (alerts site.now inputs.now)) }
+    ensures prefix { OnErr result (AppendsPrefix (K.taken out.old) (K.taken out.new) (alerts (setting site.now terrain.now) inputs.now)) }
     ensures broken { IsErrOf result CycleFault.WriteFault → Rose (K.faults out.old) (K.faults out.new) }
     ensures unbroken { (IsErrOf result CycleFault.WriteFault → ⊥) → K.faults out.new ≡ K.faults out.old }
     ensures louder { K.faults out.old ≤ K.faults out.new }
@@ -126,7 +131,7 @@ pub fn make_cycles<K: Sink, L: Ledger>(
     windows_of_a_feed();
     let mut cursors = cursors_of(alloc, site, inputs)?;
     let mut table = Table::new(alloc, site.start, site.period, site.timeout);
-    let mut engine = Engine::new(alloc, site)?;
+    let mut engine = Engine::new(alloc, site, terrain)?;
     let mut made = Made {
         cycles: 0,
         firsts: 0,

@@ -15,7 +15,7 @@ pub mod words;
 mod work;
 
 pub use report::{FeedCount, FeedCounts, Refusals, Report, report_text};
-pub use texts::{FaultText, USAGE, tell};
+pub use texts::{FaultText, Refusal, USAGE, tell};
 pub use top::replay_top;
 pub use words::{Plan, WordsFault, read_words};
 

@@ -1,19 +1,21 @@
-//! What stands under a name: the site of a site file, and the content of a feed. What is opened is closed again,
+//! What stands under a name: the site of a site file, a terrain, and the content of a feed. What is opened is closed again,
 //! whatever came.
-ghost use Rattle.std.specs.Prelude.{◌≡◌, ◌≤◌, ◌⊎◌, false, length, Err, IfErr, IfOk, IsErrOf, Ok};
+ghost use Rattle.std.specs.Prelude.{◌≡◌, ◌≤◌, ◌⊎◌, false, length, Err, IfErr, IfOk, IsErrOf, Ok, Some};
 ghost use Rattle.outside_io.specs.Faults.{Rose};
 ghost use Rattle.outside_io.specs.Names.{Lacks};
 ghost use Rattle.site_params.specs.Ranges.{IsSite};
 ghost use Rattle.replay_cli.specs.Feeds.{AreTellable, IsTellable, ReadsEach, ReadsNamed, TextOf};
-ghost use Rattle.replay_cli.specs.Stops.{IsReading, StopsAmong, StopsSite, fault_of, leaves_unread as unread, site_fault};
+ghost use Rattle.replay_cli.specs.Stops.{IsGround, IsReading, IsTerrainReading, StopsAmong, StopsSite, StopsTerrain, fault_of, leaves_unread as unread, site_fault, terrain_fault};
+ghost use Rattle.terrain_file.specs.Ranges.{IsTerrain};
 
 use crate::content::Input;
 use crate::input::{Unread, read_text, read_whole};
-use crate::texts::FaultText;
+use crate::texts::{FaultText, Refusal};
 use crate::words::{Name, Names};
 use outside_io::{OpenFault, World};
 use site_params::{SITE_ROOM, Site, SiteFault, read_site};
 use std::alloc::{AllocFailed, Global};
+use terrain_file::{TERRAIN_ROOM, Terrain, TerrainFault, read_terrain};
 
 impl From<OpenFault> for Unread {
     ghost use Rattle.replay_cli.specs.Stops.{GivesUnread};
@@ -102,7 +104,17 @@ fn refused(fault: SiteFault) -> FaultText
 {
     match fault {
         SiteFault::NoMemory => FaultText::NoMemory,
-        fault => FaultText::Site(fault),
+        fault => FaultText::Refused(Refusal::Site(fault)),
+    }
+}
+
+/// The fault of a run whose terrain is refused.
+fn refused_terrain(fault: TerrainFault) -> FaultText
+    ensures { result ≡ terrain_fault fault }
+{
+    match fault {
+        TerrainFault::NoMemory => FaultText::NoMemory,
+        fault => FaultText::Refused(Refusal::Terrain(fault)),
     }
 }
 
@@ -125,6 +137,49 @@ pub fn site_of<W: World>(alloc: Global, world: &mut W, name: Name) -> Result<Sit
     match read_site(alloc, &text) {
         Ok(site) => Ok(site),
         Err(fault) => Err(refused(fault)),
+    }
+}
+
+/// The terrain that the file under a name is.
+fn terrain_under<W: World>(alloc: Global, world: &mut W, name: Name) -> Result<Terrain, FaultText>
+    ensures terrain { IfOk result (λ terrain. IsTerrainReading (W.files world.old) name (Ok terrain)) }
+    ensures accepted { IfOk result IsTerrain }
+    ensures fault { IfErr result (StopsTerrain (W.files world.old) (W.faults world.old) (W.faults world.new) (Some name)) }
+
+    // What stays as it was.
+    ensures files { W.files world.new ≡ W.files world.old }
+    ensures closed { W.opened world.new ≡ W.opened world.old }
+    ensures kept { unread result ≡ false → W.faults world.new ≡ W.faults world.old }
+    ensures later { W.faults world.old ≤ W.faults world.new }
+{
+    let bytes = match text_under(alloc, world, name.as_str(), TERRAIN_ROOM + 1) {
+        Ok(bytes) => bytes,
+        Err(unread) => return Err(unread.of(name)),
+    };
+    match read_terrain(alloc, &bytes) {
+        Ok(terrain) => Ok(terrain),
+        Err(fault) => Err(refused_terrain(fault)),
+    }
+}
+
+/// The terrain under a site: that of the file that it names, or the one without a cell.
+pub fn terrain_of<W: World>(alloc: Global, world: &mut W, site: &Site) -> Result<Terrain, FaultText>
+    ensures terrain { IfOk result (IsGround (W.files world.old) site.now.terrain) }
+    ensures accepted { IfOk result IsTerrain }
+    ensures fault { IfErr result (StopsTerrain (W.files world.old) (W.faults world.old) (W.faults world.new) site.now.terrain) }
+
+    // What stays as it was.
+    ensures files { W.files world.new ≡ W.files world.old }
+    ensures closed { W.opened world.new ≡ W.opened world.old }
+    ensures kept { unread result ≡ false → W.faults world.new ≡ W.faults world.old }
+    ensures later { W.faults world.old ≤ W.faults world.new }
+{
+    match &site.terrain {
+        None => Ok(Terrain::none(alloc)),
+        Some(file) => {
+            let name = Name::new(String::from_str(alloc, file.as_str())?);
+            terrain_under(alloc, world, name)
+        }
     }
 }
 

@@ -2,6 +2,7 @@
 
 mod airspace;
 mod alerts;
+mod approach;
 mod blocks;
 mod cycles;
 mod damage;
@@ -14,5 +15,6 @@ mod report;
 mod several;
 mod site;
 mod splits;
+mod terrain;
 mod told;
 mod words;

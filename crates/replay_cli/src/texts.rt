@@ -3,7 +3,7 @@ ghost use Rattle.outside_io.specs.Bytes.{AppendsWhole};
 ghost use Rattle.outside_io.specs.Faults.{HasCause};
 ghost use Rattle.std.specs.Prelude.{◌∷◌, [], codes};
 ghost use Rattle.std.specs.List.{concat};
-ghost use Rattle.replay_cli.specs.FaultTexts.{at_field, refused, site_text, text_of_fault};
+ghost use Rattle.replay_cli.specs.FaultTexts.{at_field, refusal_text, refused, site_text, terrain_refused, terrain_text, text_of_fault};
 ghost use Rattle.replay_cli.specs.Pieces.{piece_text};
 ghost use Rattle.replay_cli.specs.Telling.{Tells};
 
@@ -14,18 +14,28 @@ use crate::words::Name;
 use outside_io::source::Failed;
 use outside_io::{Sink, write_whole};
 use site_params::{Field, SiteFault};
+use terrain_file::TerrainFault;
 
 /// What words without a plan are answered with.
 pub const USAGE: &str =
     "usage: safetynets replay --site FILE FEED...\n       safetynets run --site FILE --workers N FEED...\n";
+
+/// Why a file that was read is refused.
+#[derive(Clone, Copy, Debug, PartialEq, Eq)]
+pub enum Refusal {
+    /// The site file.
+    Site(SiteFault),
+    /// The terrain file.
+    Terrain(TerrainFault),
+}
 
 /// A fault that ends a run, as it is told.
 #[derive(Debug, Drop)]
 pub enum FaultText {
     /// Words without a plan.
     Usage,
-    /// A site that is refused.
-    Site(SiteFault),
+    /// A file that is refused.
+    Refused(Refusal),
     /// A name that doesn't open.
     CannotOpen(Name),
     /// A name of which a read failed.
@@ -50,7 +60,7 @@ fn tell_fault<K: Sink>(text: &FaultText, sink: &mut K) -> Result<(), Failed>
 {
     match text {
         FaultText::Usage => write_whole(sink, USAGE.as_bytes()),
-        FaultText::Site(fault) => tell_site(*fault, sink),
+        FaultText::Refused(refusal) => tell_refusal(*refusal, sink),
         FaultText::CannotOpen(name) => tell_named("cannot open ", name.as_str(), sink),
         FaultText::ReadFailed(name) => tell_named("read failed: ", name.as_str(), sink),
         FaultText::WriteFailed => write_whole(sink, b"write failed\n"),
@@ -65,6 +75,77 @@ fn tell_named<'a, K: Sink>(words: &'a str, name: &'a str, sink: &mut K) -> Resul
 {
     tell_pieces(
         &[Piece::Words(words), Piece::Words(name), Piece::Words("\n")],
+        sink,
+    )
+}
+
+/// Writes why a file is refused.
+fn tell_refusal<K: Sink>(refusal: Refusal, sink: &mut K) -> Result<(), Failed>
+    ensures bytes { AppendsWhole (K.taken sink.old) (K.taken sink.new) result (refusal_text refusal) }
+    ensures cause { HasCause (K.faults sink.old) (K.faults sink.new) result }
+{
+    match refusal {
+        Refusal::Site(fault) => tell_site(fault, sink),
+        Refusal::Terrain(fault) => tell_terrain(fault, sink),
+    }
+}
+
+/// Writes the text of a terrain's fault.
+fn tell_terrain<K: Sink>(fault: TerrainFault, sink: &mut K) -> Result<(), Failed>
+    ensures bytes { AppendsWhole (K.taken sink.old) (K.taken sink.new) result (terrain_text fault) }
+    ensures cause { HasCause (K.faults sink.old) (K.faults sink.new) result }
+{
+    match fault {
+        TerrainFault::Magic => write_whole(sink, b"terrain refused: 1\n"),
+        TerrainFault::Cell(side) => tell_pieces(
+            &[
+                Piece::Words("terrain refused: 2 side "),
+                Piece::Number(u64::from(side)),
+                Piece::Words("\n"),
+            ],
+            sink,
+        ),
+        TerrainFault::Count(columns, rows) => tell_cells(columns, rows, sink),
+        TerrainFault::Size(stated, found) => {
+            tell_counts("terrain refused: 4 stated ", stated, " found ", found, sink)
+        }
+        TerrainFault::NoMemory => write_whole(sink, b"out of memory\n"),
+    }
+}
+
+/// Writes how many columns and rows of cells are told, of which one is out of range.
+fn tell_cells<K: Sink>(columns: u16, rows: u16, sink: &mut K) -> Result<(), Failed>
+    ensures bytes { AppendsWhole (K.taken sink.old) (K.taken sink.new) result (terrain_refused (codes "terrain refused: 3 columns ") columns (codes " rows ") rows) }
+    ensures cause { HasCause (K.faults sink.old) (K.faults sink.new) result }
+{
+    tell_counts(
+        "terrain refused: 3 columns ",
+        u64::from(columns),
+        " rows ",
+        u64::from(rows),
+        sink,
+    )
+}
+
+/// Writes two numbers, each behind its words.
+fn tell_counts<'a, K: Sink>(
+    words: &'a str,
+    first: u64,
+    more: &'a str,
+    second: u64,
+    sink: &mut K,
+) -> Result<(), Failed>
+    ensures bytes { AppendsWhole (K.taken sink.old) (K.taken sink.new) result (terrain_refused words.now first more.now second) }
+    ensures cause { HasCause (K.faults sink.old) (K.faults sink.new) result }
+{
+    tell_pieces(
+        &[
+            Piece::Words(words),
+            Piece::Number(first),
+            Piece::Words(more),
+            Piece::Number(second),
+            Piece::Words("\n"),
+        ],
         sink,
     )
 }
@@ -86,7 +167,6 @@ fn tell_site<K: Sink>(fault: SiteFault, sink: &mut K) -> Result<(), Failed>
         }
         SiteFault::NoSuchName(field) => tell_field(6, field, sink),
         SiteFault::Long => tell_refused(7, sink),
-        SiteFault::NotBuilt(field) => tell_field(8, field, sink),
         SiteFault::NoMemory => write_whole(sink, b"out of memory\n"),
     }
 }

@@ -1,7 +1,7 @@
 //! The program as one function over words, a world and sinks.
 ghost use Rattle.std.specs.Prelude.{◌≡◌, ◌≢◌, ◌≤◌, ◌⊎◌, OnOk};
 ghost use Rattle.outside_io.specs.Faults.{Rose};
-ghost use Rattle.replay_cli.specs.Found.{found, names_of, request as requested, IfGiven, IsLacking};
+ghost use Rattle.replay_cli.specs.Found.{found, IfGiven, IsLacking};
 ghost use Rattle.replay_cli.specs.Outcomes.{CountsPairs, Judges, MayWrite, Reports, Serves, sunk, IsDone};
 ghost use Rattle.replay_cli.specs.Ends.{Ends, Finishes, change, ran, status_done, status_of};
 ghost use Rattle.replay_cli.specs.FaultTexts.{text_of_fault};
@@ -9,7 +9,7 @@ ghost use Rattle.replay_cli.specs.Stops.{stop_status as status_stopped};
 ghost use Rattle.replay_cli.specs.Telling.{Tells};
 ghost use Rattle.replay_cli.specs.Words.{texts};
 
-use crate::named::{feeds_of, site_of};
+use crate::named::{feeds_of, site_of, terrain_of};
 use crate::request::{Request, asked};
 use crate::texts::{FaultText, tell};
 use crate::work::{Work, work_of};
@@ -17,7 +17,7 @@ use outside_io::{Sink, Sinks, Steps, World, write_whole};
 use std::alloc::Global;
 use std::sync::ledger::Ledger;
 
-/// Writes the alert bytes of the feeds that the words name, under the site that they name.
+/// Writes the alert bytes of the feeds that the words name, under the site that they name and its terrain.
 fn replay<W: World, K: Sink, L: Ledger>(
     alloc: Global,
     words: &[String],
@@ -42,8 +42,9 @@ fn replay<W: World, K: Sink, L: Ledger>(
 {
     let Request { site, feeds } = asked(alloc, words)?;
     let site = site_of(alloc, world, site)?;
+    let terrain = terrain_of(alloc, world, &site)?;
     let inputs = feeds_of(alloc, world, feeds)?;
-    work_of(alloc, &site, &inputs, out, steps)
+    work_of(alloc, &site, &terrain, &inputs, out, steps)
 }
 
 /// The exit status of a run whose work is done.
@@ -59,7 +60,7 @@ fn stop_status(stop: &FaultText) -> u8
 {
     match stop {
         FaultText::Usage => 2,
-        FaultText::Site(_) => 3,
+        FaultText::Refused(_) => 3,
         FaultText::CannotOpen(_) | FaultText::ReadFailed(_) => 4,
         FaultText::WriteFailed => 5,
         FaultText::NoMemory => 6,
@@ -93,9 +94,9 @@ fn finish<K: Sink>(ending: Result<Work, FaultText>, report: &mut K) -> u8
 }
 
 /// Does all that the program does, and answers the exit status: 0 done, 2 for words that ask for nothing that
-/// is done here, 3 for a site that is refused, 4 for a name that can't be opened or a read that failed, 5 for a
+/// is done here, 3 for a site or a terrain that is refused, 4 for a name that can't be opened or a read that failed, 5 for a
 /// write that failed, 6 for want of memory, 7 done with something refused or a feed that doesn't end behind a
-/// whole block. The order is words, site, feeds, the cycles one after the other, report.
+/// whole block. The order is words, site, terrain, feeds, the cycles one after the other, report.
 pub fn replay_top<W: World, K: Sink, L: Ledger>(
     alloc: Global,
     words: &[String],
@@ -106,7 +107,7 @@ pub fn replay_top<W: World, K: Sink, L: Ledger>(
     // No other status comes.
     ensures statuses { (result ≡ 0) ⊎ (result ≡ 2) ⊎ (result ≡ 3) ⊎ (result ≡ 4) ⊎ (result ≡ 5) ⊎ (result ≡ 6) ⊎ (result ≡ 7) }
 
-    // The headline: where the world tells the site and the feeds, the statuses 0 and 7 have written the reference's
+    // The headline: where the world tells the site, its terrain and the feeds, the statuses 0 and 7 have written the reference's
     // alert bytes to `out`, those of all cycles, and any other status a prefix of them.
     ensures headline { IfGiven (found (W.files world.old) (texts words.now))
         (Serves result (sunk (K.taken sinks.old.out) (K.taken sinks.new.out) (K.faults sinks.old.out) (K.faults sinks.new.out))) }
@@ -119,7 +120,7 @@ pub fn replay_top<W: World, K: Sink, L: Ledger>(
     ensures unwritten { result ≡ 5 → Rose (K.faults sinks.old.out) (K.faults sinks.new.out) ⊎ Rose (K.faults sinks.old.report) (K.faults sinks.new.report) }
 
     // What `report` took.
-    ensures told { Reports (found (W.files world.old) (texts words.now)) (names_of (requested (texts words.now))) result
+    ensures told { Reports (W.files world.old) (texts words.now) result
         (sunk (K.taken sinks.old.report) (K.taken sinks.new.report) (K.faults sinks.old.report) (K.faults sinks.new.report)) }
 
     // No fault is passed over.

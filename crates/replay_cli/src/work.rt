@@ -3,7 +3,9 @@ ghost use Rattle.std.specs.Prelude.{◌≡◌, ◌⊎◌, ◌+◌, ◌≤◌, If
 ghost use Rattle.std.specs.Io.KnownBytes.{Appends};
 ghost use Rattle.outside_io.specs.Bytes.{AppendsPrefix};
 ghost use Rattle.outside_io.specs.Faults.{Rose};
+ghost use Rattle.cycle_workers.specs.Settings.{setting};
 ghost use Rattle.site_params.specs.Ranges.{IsSite};
+ghost use Rattle.terrain_file.specs.Ranges.{IsTerrain};
 ghost use Rattle.replay_cli.specs.Content.{are_intact as intact};
 ghost use Rattle.replay_cli.specs.Counts.{feed_count, report_by};
 ghost use Rattle.replay_cli.specs.Feeds.{AreTellable};
@@ -20,6 +22,7 @@ use outside_io::{Sink, Steps};
 use site_params::Site;
 use std::alloc::{AllocError, AllocFailed, Global};
 use std::sync::ledger::Ledger;
+use terrain_file::Terrain;
 
 /// What a run has to write to `report`, and whether its feeds are intact.
 #[derive(Debug, Drop)]
@@ -98,24 +101,26 @@ fn are_intact(inputs: &[Input]) -> bool
 pub fn work_of<K: Sink, L: Ledger>(
     alloc: Global,
     site: &Site,
+    terrain: &Terrain,
     inputs: &[Input],
     out: &mut K,
     steps: &mut Steps<L>,
 ) -> Result<Work, FaultText>
     requires site { IsSite site.now }
+    requires terrain { IsTerrain terrain.now }
     requires tellable { AreTellable inputs.now }
     requires few { length inputs.now ≤ MOST_FEEDS }
-    ensures work { IfOk result (IsWork site.now inputs.now) }
-    ensures alerts { OnOk result (Appends (K.taken out.old) (K.taken out.new) (alerts site.now inputs.now)) }
+    ensures work { IfOk result (IsWork (setting site.now terrain.now) inputs.now) }
+    ensures alerts { OnOk result (Appends (K.taken out.old) (K.taken out.new) (alerts (setting site.now terrain.now) inputs.now)) }
     ensures counted { OnOk result (steps.new ≡ steps.old + examined site.now inputs.now) }
-    ensures prefix { OnErr result (AppendsPrefix (K.taken out.old) (K.taken out.new) (alerts site.now inputs.now)) }
+    ensures prefix { OnErr result (AppendsPrefix (K.taken out.old) (K.taken out.new) (alerts (setting site.now terrain.now) inputs.now)) }
     ensures fault { IfErr result (λ e. (e ≡ FaultText.NoMemory) ⊎ (e ≡ FaultText.WriteFailed)) }
     ensures broken { IsErrOf result FaultText.WriteFailed → Rose (K.faults out.old) (K.faults out.new) }
     ensures unbroken { (IsErrOf result FaultText.WriteFailed → ⊥) → K.faults out.new ≡ K.faults out.old }
     ensures louder { K.faults out.old ≤ K.faults out.new }
     ensures later { steps.old ≤ steps.new }
 {
-    let made = make_cycles(alloc, site, inputs, out, steps)?;
+    let made = make_cycles(alloc, site, terrain, inputs, out, steps)?;
     let counts = counts_of(alloc, inputs)?;
     let report = report_text(alloc, &report_of(counts, made))?;
     Ok(Work {

@@ -1,24 +1,20 @@
 -- The fields of a site file in the order in which they are checked, each with its number, its key, its kind and its range (this
 -- project's profile).
-use Rattle.std.specs.Prelude.{codes as key, ℕ, ℤ, pos, Bool, List, [], ◌∷◌, map, Ok, Err, unwrap_or, is_some, if◌then◌else◌}
-use Rattle.toml.specs.Data.{Members, get_member}
-use Rattle.site_params.specs.declared.fault.SiteFault.TheVariants.{NotBuilt}
-use Rattle.site_params.specs.declared.ranges.TheConstants.{VERSION, DAY_SECONDS, CYCLE_SECONDS, QNH_FEET, SET_COUNT, LOOK_SECONDS, SEPARATION_METRES, SEPARATION_FEET, SPLIT_FEET}
+use Rattle.std.specs.Prelude.{codes as key, ℕ, pos, List, [], Option, Some, None, Ok, unwrap_or}
+use Rattle.toml.specs.Data.{Data, get_member}
+use Rattle.site_fields.specs.declared.fault.Field.{Field}
+use Rattle.site_fields.specs.Kinds.{Reading, ◌>>=◌, Place, field}
+use Rattle.site_fields.specs.Lists.{numbers_of}
+use Rattle.site_fields.specs.Numbers.{octet, seconds, optional_integer, optional_levels}
+use Rattle.site_fields.specs.Texts.{optional_text}
+use Rattle.site_params.specs.declared.ranges.TheConstants.{VERSION, DAY_SECONDS, CYCLE_SECONDS, QNH_FEET, CODES, FILE_NAME_LENGTH}
 use Rattle.site_params.specs.declared.fields.General.{General}
-use Rattle.site_params.specs.declared.fields.NamedSets.{NamedSets}
-use Rattle.site_params.specs.declared.site.Confirm.{Confirm}
-use Rattle.site_params.specs.declared.site.Set.{Set}
 use Rattle.site_params.specs.declared.site.Site.{Site}
-use Rattle.site_params.specs.Kinds.{Reading, ◌>>=◌, Place, field, boolean, table}
-use Rattle.site_params.specs.Numbers.{octet, seconds, metres, height, optional_integer, optional_levels}
-use Rattle.site_params.specs.Lists.{codes, confirm}
-use Rattle.site_params.specs.Entries.{tables, name_of, entries}
+use Rattle.site_params.specs.Confirms.{confirms_of}
+use Rattle.site_params.specs.Sets.{sets_of}
 use Rattle.site_params.specs.Regions.{regions_of}
 use Rattle.site_params.specs.Volumes.{volumes_of}
-
--- what isn't built must not stand there
-unfoldable pub not_built : ℕ → List ℕ → Place → Reading (Unit {0})
-not_built number key at = if is_some (get_member key at.members) then Err (NotBuilt (field number at)) else Ok tt
+use Rattle.site_params.specs.Funnels.{funnels_of}
 
 -- the source, the times and the correction
 unfoldable pub general_of : Place → Reading General
@@ -32,82 +28,29 @@ general_of at = do
   qnh ← optional_levels 7 (key "qnh") QNH_FEET at
   Ok (record { sac = sac; sic = sic; start = start; period = period; timeout = timeout; qnh = unwrap_or qnh (pos 0) })
 
--- when each net's alerts are on
-unfoldable pub confirms_of : Place → Reading (List Confirm)
-confirms_of at = do
-  at ← table 10 (key "confirm") at
-  stca ← confirm 11 (key "stca") at
-  msaw ← confirm 12 (key "msaw") at
-  apw ← confirm 13 (key "apw") at
-  apm ← confirm 14 (key "apm") at
-  Ok (stca ∷ msaw ∷ apw ∷ apm ∷ [])
+-- Mode 3/A codes, none where nothing stands there
+abbrev pub codes_if_there : Field → Option Data → Reading (List ℕ)
+codes_if_there at None = Ok []
+codes_if_there at (Some value) = numbers_of CODES at value
 
--- which nets a set enables
-unfoldable pub switches_of : Place → Reading (List Bool)
-switches_of at = do
-  stca ← boolean 17 (key "stca") at
-  msaw ← boolean 18 (key "msaw") at
-  apw ← boolean 19 (key "apw") at
-  apm ← boolean 20 (key "apm") at
-  Ok (stca ∷ msaw ∷ apw ∷ apm ∷ [])
+unfoldable pub codes_of : Place → Reading (List ℕ)
+codes_of at = codes_if_there (field 8 at) (get_member (key "codes") at.members)
 
--- how far each net looks ahead
-unfoldable pub looks_of : Place → Reading (List ℤ)
-looks_of at = do
-  stca ← seconds 21 (key "look_stca") LOOK_SECONDS at
-  msaw ← seconds 22 (key "look_msaw") LOOK_SECONDS at
-  apw ← seconds 23 (key "look_apw") LOOK_SECONDS at
-  apm ← seconds 24 (key "look_apm") LOOK_SECONDS at
-  Ok (stca ∷ msaw ∷ apw ∷ apm ∷ [])
-
--- a parameter set, besides its name
-unfoldable pub set_of : Place → Reading Set
-set_of at = do
-  enabled ← switches_of at
-  look ← looks_of at
-  h ← metres 25 (key "h") SEPARATION_METRES at
-  v_low ← height 26 (key "v_low") SEPARATION_FEET at
-  v_high ← height 27 (key "v_high") SEPARATION_FEET at
-  split ← height 28 (key "split") SPLIT_FEET at
-  now_h ← metres 29 (key "now_h") SEPARATION_METRES at
-  now_v_low ← height 30 (key "now_v_low") SEPARATION_FEET at
-  now_v_high ← height 31 (key "now_v_high") SEPARATION_FEET at
-  urgent ← seconds 32 (key "urgent") LOOK_SECONDS at
-  Ok (record {
-    enabled = enabled;
-    look = look;
-    h = h;
-    v_low = v_low;
-    v_high = v_high;
-    split = split;
-    now_h = now_h;
-    now_v_low = now_v_low;
-    now_v_high = now_v_high;
-    urgent = urgent;
-  })
-
--- the parameter sets of these tables
-unfoldable pub sets_in : List Members → Reading (List Set)
-sets_in tables = entries set_of 16 (key "name") tables
-
--- the parameter sets, each with its name
-unfoldable pub sets_of : Place → Reading NamedSets
-sets_of at = do
-  tables ← tables 15 (key "set") SET_COUNT at
-  sets ← sets_in tables
-  Ok (record { sets = sets; names = map (name_of (key "name")) tables })
+-- the name of the terrain's file, where there is one
+unfoldable pub terrain_of : Place → Reading (Option (List ℕ))
+terrain_of at = optional_text 9 (key "terrain") FILE_NAME_LENGTH at
 
 -- the whole document
 unfoldable pub site_of : Place → Reading Site
 site_of at = do
   general ← general_of at
-  excluded ← codes 8 (key "codes") at
-  terrain ← not_built 9 (key "terrain") at
+  excluded ← codes_of at
+  terrain ← terrain_of at
   confirm ← confirms_of at
   named ← sets_of at
   regions ← regions_of named.names at
   volumes ← volumes_of at
-  funnel ← not_built 45 (key "funnel") at
+  funnels ← funnels_of at
   Ok (record {
     sac = general.sac;
     sic = general.sic;
@@ -116,8 +59,10 @@ site_of at = do
     timeout = general.timeout;
     qnh = general.qnh;
     codes = excluded;
+    terrain = terrain;
     confirm = confirm;
     sets = named.sets;
     regions = regions;
     volumes = volumes;
+    funnels = funnels;
   })

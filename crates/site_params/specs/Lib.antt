@@ -1,10 +1,9 @@
-pub mod Kinds
 pub mod Ranges
-pub mod Numbers
-pub mod Lists
-pub mod Pairs
-pub mod Entries
+pub mod Looks
+pub mod Confirms
+pub mod Sets
 pub mod Regions
 pub mod Volumes
+pub mod Funnels
 pub mod Fields
 pub mod Site

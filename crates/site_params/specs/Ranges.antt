@@ -1,52 +1,27 @@
 -- The ranges of the fields (this project's profile).
-use Rattle.std.specs.Prelude.{ℕ, ◌≡◌, ◌<◌, ◌≤◌, pos, List, length, All, IfSome, ℤ, ◌≤ℤ◌, ◌*ℤ◌, int_le, ◌&&◌, if◌then◌else◌, Ok, Err}
-use Rattle.site_params.specs.declared.fault.Field.{Field}
-use Rattle.site_params.specs.declared.fault.SiteFault.TheVariants.{Range}
-use Rattle.site_params.specs.declared.ranges.Limits.{Limits}
-use Rattle.site_params.specs.declared.ranges.PairLimits.{PairLimits}
-use Rattle.site_params.specs.declared.ranges.TheConstants.{DAY_SECONDS, CYCLE_SECONDS, QNH_FEET, CODE_COUNT, CODE, CONFIRM_CYCLES, HOLD_CYCLES, SET_COUNT, LOOK_SECONDS, SEPARATION_METRES, SEPARATION_FEET, SPLIT_FEET, REGION_COUNT, VOLUME_COUNT, LAYER_FEET, POINTS, ACTIVE_TIMES}
-use Rattle.site_params.specs.declared.numbers.TheConstants.{TICKS_PER_SECOND, LENGTH_UNITS_PER_METRE, HEIGHT_UNITS_PER_25_FEET, FEET_PER_LEVEL}
+use Rattle.std.specs.Prelude.{ℕ, ◌≡◌, ◌<◌, ◌≤◌, pos, List, length, All, IfSome, ℤ}
+use Rattle.site_fields.specs.declared.numbers.TheConstants.{TICKS_PER_SECOND, LENGTH_UNITS_PER_METRE}
+use Rattle.site_fields.specs.Ranges.{IsWithin, IsIn, IsLevel, IsHeight, AreNumbers, IsPairs}
+use Rattle.site_params.specs.declared.ranges.TheConstants.{DAY_SECONDS, CYCLE_SECONDS, QNH_FEET, CODES, FILE_NAME_LENGTH, CONFIRM_CYCLES, HOLD_CYCLES, SET_COUNT, LOOK_SECONDS, SEPARATION_METRES, SEPARATION_FEET, SPLIT_FEET, REGION_COUNT, VOLUME_COUNT, LAYER_FEET, POINTS, ACTIVE_TIMES, FUNNEL_COUNT, PLACE_METRES, DIRECTION, ELEVATION_FEET, REACH_METRES, CAPTURE_FEET, HALF_METRES, SIDE_METRES, BASE_FEET, RISE_FEET}
 use Rattle.site_params.specs.declared.airspace.Region.{Region}
 use Rattle.site_params.specs.declared.airspace.Volume.{Volume}
+use Rattle.site_params.specs.declared.funnel.Funnel.{Funnel}
+use Rattle.site_params.specs.declared.funnels.Bounds.{Bounds}
+use Rattle.site_params.specs.declared.funnels.Capture.{Capture}
+use Rattle.site_params.specs.declared.funnels.Threshold.{Threshold}
 use Rattle.site_params.specs.declared.fields.General.{General}
-use Rattle.site_params.specs.declared.fields.NamedSets.{NamedSets}
+use Rattle.site_params.specs.declared.sets.NamedSets.{NamedSets}
 use Rattle.site_params.specs.declared.site.Confirm.{Confirm}
 use Rattle.site_params.specs.declared.site.Set.{Set}
 use Rattle.site_params.specs.declared.site.Site.{Site}
-use Rattle.site_params.specs.Kinds.{Reading}
-
--- the number is in range
-pub record IsWithin (limits : Limits) (number : ℤ) : Type 0 where
-  pub low : limits.low ≤ℤ number
-  pub high : number ≤ℤ limits.high
-
--- in range, where the file's unit is so many of this one
-pub record IsIn (limits : Limits) (units : ℤ) (value : ℤ) : Type 0 where
-  pub low : (limits.low *ℤ units) ≤ℤ value
-  pub high : value ≤ℤ (limits.high *ℤ units)
-
--- steps of 25 ft, in range in feet
-pub record IsLevel (limits : Limits) (steps : ℤ) : Type 0 where
-  pub low : limits.low ≤ℤ (steps *ℤ FEET_PER_LEVEL)
-  pub high : (steps *ℤ FEET_PER_LEVEL) ≤ℤ limits.high
-
--- height units, in range in feet
-pub record IsHeight (limits : Limits) (height : ℤ) : Type 0 where
-  pub low : (limits.low *ℤ HEIGHT_UNITS_PER_25_FEET) ≤ℤ (height *ℤ FEET_PER_LEVEL)
-  pub high : (height *ℤ FEET_PER_LEVEL) ≤ℤ (limits.high *ℤ HEIGHT_UNITS_PER_25_FEET)
-
--- the number, if it is in range
-abbrev pub within : Field → Limits → ℤ → Reading ℤ
-within at limits number = if int_le limits.low number && int_le number limits.high then Ok number else Err (Range at number)
-
--- a Mode 3/A code
-abbrev pub IsCode : ℕ → Type 0
-IsCode code = IsWithin CODE (pos code)
 
 -- Mode 3/A codes, so many
-pub record IsCodes (codes : List ℕ) : Type 0 where
-  pub count : IsWithin CODE_COUNT (pos (length codes))
-  pub each : All IsCode codes
+abbrev pub IsCodes : List ℕ → Type 0
+IsCodes codes = AreNumbers CODES codes
+
+-- the name of a file, so long
+abbrev pub IsFileName : List ℕ → Type 0
+IsFileName name = IsWithin FILE_NAME_LENGTH (pos (length name))
 
 -- m of n, and the hold, in range
 pub record IsConfirm (confirm : Confirm) : Type 0 where
@@ -86,16 +61,6 @@ pub record IsNamedSets (named : NamedSets) : Type 0 where
   pub sets : IsSets named.sets
   pub names : length named.names ≡ length named.sets
 
--- both numbers in range, where the file's unit is so many of theirs
-pub record IsPair (limits : PairLimits) (pair : ℤ × ℤ) : Type 0 where
-  pub first : IsIn limits.number (pos limits.units) pair.0
-  pub second : IsIn limits.number (pos limits.units) pair.1
-
--- pairs in range, so many
-pub record IsPairs (limits : PairLimits) (pairs : List (ℤ × ℤ)) : Type 0 where
-  pub count : IsWithin limits.count (pos (length pairs))
-  pub each : All (IsPair limits) pairs
-
 -- the points of a polygon
 abbrev pub IsPolygon : List (ℤ × ℤ) → Type 0
 IsPolygon points = IsPairs POINTS points
@@ -128,6 +93,58 @@ pub record AreVolumes (volumes : List Volume) : Type 0 where
   pub count : IsWithin VOLUME_COUNT (pos (length volumes))
   pub each : All IsVolume volumes
 
+-- a landing direction in range
+pub record IsDirection (direction : ℤ × ℤ) : Type 0 where
+  pub dx : IsWithin DIRECTION direction.0
+  pub dy : IsWithin DIRECTION direction.1
+  pub directed : direction.0 ≡ pos 0 → ¬ (direction.1 ≡ pos 0)
+
+-- a threshold in range
+pub record IsThreshold (threshold : Threshold) : Type 0 where
+  pub x : IsIn PLACE_METRES LENGTH_UNITS_PER_METRE threshold.x
+  pub y : IsIn PLACE_METRES LENGTH_UNITS_PER_METRE threshold.y
+  pub direction : IsDirection (threshold.dx, threshold.dy)
+  pub elevation : IsWithin ELEVATION_FEET threshold.elevation
+
+-- a capture in range
+pub record IsCapture (capture : Capture) : Type 0 where
+  pub ceiling : IsHeight CAPTURE_FEET capture.ceiling
+  pub half : IsWithin HALF_METRES capture.half
+  pub side : IsWithin SIDE_METRES capture.side
+
+-- sides and slopes in range
+pub record AreBounds (bounds : Bounds) : Type 0 where
+  pub half : IsWithin HALF_METRES bounds.half
+  pub side : IsWithin SIDE_METRES bounds.side
+  pub low_base : IsWithin BASE_FEET bounds.low_base
+  pub low_rise : IsWithin RISE_FEET bounds.low_rise
+  pub high_base : IsWithin BASE_FEET bounds.high_base
+  pub high_rise : IsWithin RISE_FEET bounds.high_rise
+
+-- a funnel in range
+pub record IsFunnel (funnel : Funnel) : Type 0 where
+  pub x : IsIn PLACE_METRES LENGTH_UNITS_PER_METRE funnel.x
+  pub y : IsIn PLACE_METRES LENGTH_UNITS_PER_METRE funnel.y
+  pub dx : IsWithin DIRECTION funnel.dx
+  pub dy : IsWithin DIRECTION funnel.dy
+  pub directed : funnel.dx ≡ pos 0 → ¬ (funnel.dy ≡ pos 0)
+  pub elevation : IsWithin ELEVATION_FEET funnel.elevation
+  pub reach : IsWithin REACH_METRES funnel.reach
+  pub ceiling : IsHeight CAPTURE_FEET funnel.ceiling
+  pub capture_half : IsWithin HALF_METRES funnel.capture_half
+  pub capture_side : IsWithin SIDE_METRES funnel.capture_side
+  pub half : IsWithin HALF_METRES funnel.half
+  pub side : IsWithin SIDE_METRES funnel.side
+  pub low_base : IsWithin BASE_FEET funnel.low_base
+  pub low_rise : IsWithin RISE_FEET funnel.low_rise
+  pub high_base : IsWithin BASE_FEET funnel.high_base
+  pub high_rise : IsWithin RISE_FEET funnel.high_rise
+
+-- funnels in range, so many
+pub record AreFunnels (funnels : List Funnel) : Type 0 where
+  pub count : IsWithin FUNNEL_COUNT (pos (length funnels))
+  pub each : All IsFunnel funnels
+
 -- a site in range
 pub record IsSite (site : Site) : Type 0 where
   pub sac : site.sac < 256
@@ -137,7 +154,9 @@ pub record IsSite (site : Site) : Type 0 where
   pub timeout : IsIn CYCLE_SECONDS TICKS_PER_SECOND site.timeout
   pub qnh : IsLevel QNH_FEET site.qnh
   pub codes : IsCodes site.codes
+  pub terrain : IfSome site.terrain IsFileName
   pub confirm : All IsConfirm site.confirm
   pub sets : IsSets site.sets
   pub regions : AreRegions (length site.sets) site.regions
   pub volumes : AreVolumes site.volumes
+  pub funnels : AreFunnels site.funnels

@@ -1,12 +1,11 @@
 -- The regions of a site file, in which other parameter sets hold than the first (this project's profile).
 use Rattle.std.specs.Prelude.{codes as key, ℕ, List, Ok}
-use Rattle.toml.specs.Data.{Members}
+use Rattle.site_fields.specs.Kinds.{Reading, ◌>>=◌, Place}
+use Rattle.site_fields.specs.Numbers.{height}
+use Rattle.site_fields.specs.Pairs.{pairs}
+use Rattle.site_fields.specs.Entries.{optional_tables, named_entry, entries}
 use Rattle.site_params.specs.declared.ranges.TheConstants.{REGION_COUNT, LAYER_FEET, POINTS}
 use Rattle.site_params.specs.declared.airspace.Region.{Region}
-use Rattle.site_params.specs.Kinds.{Reading, ◌>>=◌, Place}
-use Rattle.site_params.specs.Numbers.{height}
-use Rattle.site_params.specs.Pairs.{pairs}
-use Rattle.site_params.specs.Entries.{optional_tables, named_entry, entries}
 
 -- a region, besides its name, where the sets have these names
 unfoldable pub region_of : List (List ℕ) → Place → Reading Region
@@ -17,12 +16,8 @@ region_of sets at = do
   points ← pairs 38 (key "points") POINTS at
   Ok (record { set = set; floor = floor; ceiling = ceiling; points = points })
 
--- the regions of these tables
-unfoldable pub regions_in : List (List ℕ) → List Members → Reading (List Region)
-regions_in sets tables = entries (region_of sets) 34 (key "name") tables
-
 -- the regions, each with its name
 unfoldable pub regions_of : List (List ℕ) → Place → Reading (List Region)
 regions_of sets at = do
   tables ← optional_tables 33 (key "region") REGION_COUNT at
-  regions_in sets tables
+  entries (region_of sets) 34 (key "name") tables

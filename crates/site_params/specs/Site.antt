@@ -3,10 +3,10 @@ use Rattle.std.specs.Prelude.{ℕ, List, length, Err, ok_or, nat_lt, if◌then�
 use Rattle.std.specs.Str.{is_utf8}
 use Rattle.toml.specs.Data.{Members}
 use Rattle.toml.specs.Parse.{parse_document}
-use Rattle.site_params.specs.declared.fault.SiteFault.TheVariants.{Syntax, Long}
+use Rattle.site_fields.specs.declared.fault.SiteFault.TheVariants.{Syntax, Long}
 use Rattle.site_params.specs.declared.read.TheConstants.{SITE_ROOM}
 use Rattle.site_params.specs.declared.site.Site.{Site}
-use Rattle.site_params.specs.Kinds.{Reading, ◌>>=◌}
+use Rattle.site_fields.specs.Kinds.{Reading, ◌>>=◌}
 use Rattle.site_params.specs.Fields.{site_of}
 
 -- the document that a text is

@@ -1,12 +1,11 @@
 -- The airspace volumes of a site file (this project's profile).
 use Rattle.std.specs.Prelude.{codes as key, List, Ok}
-use Rattle.toml.specs.Data.{Members}
+use Rattle.site_fields.specs.Kinds.{Reading, ◌>>=◌, Place}
+use Rattle.site_fields.specs.Numbers.{height}
+use Rattle.site_fields.specs.Pairs.{pairs, optional_pairs}
+use Rattle.site_fields.specs.Entries.{optional_tables, entries}
 use Rattle.site_params.specs.declared.ranges.TheConstants.{VOLUME_COUNT, LAYER_FEET, POINTS, ACTIVE_TIMES}
 use Rattle.site_params.specs.declared.airspace.Volume.{Volume}
-use Rattle.site_params.specs.Kinds.{Reading, ◌>>=◌, Place}
-use Rattle.site_params.specs.Numbers.{height}
-use Rattle.site_params.specs.Pairs.{pairs, optional_pairs}
-use Rattle.site_params.specs.Entries.{optional_tables, entries}
 
 -- a volume, besides its name
 unfoldable pub volume_of : Place → Reading Volume
@@ -17,12 +16,8 @@ volume_of at = do
   active ← optional_pairs 44 (key "active") ACTIVE_TIMES at
   Ok (record { floor = floor; ceiling = ceiling; points = points; active = active })
 
--- the volumes of these tables
-unfoldable pub volumes_in : List Members → Reading (List Volume)
-volumes_in tables = entries volume_of 40 (key "name") tables
-
 -- the volumes, each with its name
 unfoldable pub volumes_of : Place → Reading (List Volume)
 volumes_of at = do
   tables ← optional_tables 39 (key "volume") VOLUME_COUNT at
-  volumes_in tables
+  entries volume_of 40 (key "name") tables

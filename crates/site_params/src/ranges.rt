@@ -1,33 +1,9 @@
 //! The ranges of the fields.
 
-ghost use Rattle.std.specs.Prelude.{◌≡◌, IfOk};
-ghost use Rattle.site_params.specs.Ranges.{within, IsWithin};
-
-use crate::fault::{Field, SiteFault};
-use crate::numbers::{LENGTH_UNITS_PER_METRE, TICKS_PER_SECOND};
-
-/// The least and the greatest value of a field in the site file's unit, or the least and the greatest length
-/// of a text or a list.
-#[derive(Clone, Copy)]
-pub struct Limits {
-    pub low: i32,
-    pub high: i32,
-}
-
-/// Of a list of pairs how many there may be, the range of their numbers, and how many of a site's units the site
-/// file's is.
-#[derive(Clone, Copy)]
-pub struct PairLimits {
-    pub count: Limits,
-    pub number: Limits,
-    pub units: u16,
-}
+use site_fields::{LENGTH_UNITS_PER_METRE, Limits, ListLimits, PairLimits, TICKS_PER_SECOND};
 
 /// The version of the site file.
 pub const VERSION: Limits = Limits { low: 1, high: 1 };
-
-/// A system area code or a system identification code.
-pub const SOURCE_CODE: Limits = Limits { low: 0, high: 255 };
 
 /// A second of the day.
 pub const DAY_SECONDS: Limits = Limits {
@@ -44,10 +20,14 @@ pub const QNH_FEET: Limits = Limits {
     high: 5000,
 };
 
-/// How many Mode 3/A codes there may be, and each of them.
-pub const CODE_COUNT: Limits = Limits { low: 0, high: 256 };
+/// How many Mode 3/A codes there may be, and the greatest of them.
+pub const CODES: ListLimits = ListLimits {
+    count: Limits { low: 0, high: 256 },
+    highest: 4095,
+};
 
-pub const CODE: Limits = Limits { low: 0, high: 4095 };
+/// How many octets the name of a file has.
+pub const FILE_NAME_LENGTH: Limits = Limits { low: 1, high: 255 };
 
 /// The cycles over which hits are counted, and those that an alert is held.
 pub const CONFIRM_CYCLES: Limits = Limits { low: 1, high: 16 };
@@ -56,9 +36,6 @@ pub const HOLD_CYCLES: Limits = Limits { low: 0, high: 15 };
 
 /// How many parameter sets there may be.
 pub const SET_COUNT: Limits = Limits { low: 1, high: 64 };
-
-/// How many octets a name has.
-pub const NAME_LENGTH: Limits = Limits { low: 1, high: 64 };
 
 /// How far a net looks ahead, and up to which first tick a hit is urgent, in seconds.
 pub const LOOK_SECONDS: Limits = Limits { low: 0, high: 120 };
@@ -92,13 +69,16 @@ pub const LAYER_FEET: Limits = Limits {
     high: 100_000,
 };
 
+/// A place on the system plane, along an axis, in metres.
+pub const PLACE_METRES: Limits = Limits {
+    low: -4_194_303,
+    high: 4_194_303,
+};
+
 /// The points of a polygon on the system plane, in metres.
 pub const POINTS: PairLimits = PairLimits {
     count: Limits { low: 3, high: 256 },
-    number: Limits {
-        low: -4_194_303,
-        high: 4_194_303,
-    },
+    number: PLACE_METRES,
     units: LENGTH_UNITS_PER_METRE as u16,
 };
 
@@ -112,13 +92,52 @@ pub const ACTIVE_TIMES: PairLimits = PairLimits {
     units: TICKS_PER_SECOND as u16,
 };
 
-/// The number, if it is in range.
-pub fn within(at: Field, limits: Limits, number: i64) -> Result<i32, SiteFault>
-    ensures value { result ≡ within at limits number }
-    ensures inside { IfOk result (IsWithin limits) }
-{
-    if number < i64::from(limits.low) || i64::from(limits.high) < number {
-        return Err(SiteFault::Range(at, number));
-    }
-    Ok(number as i32)
-}
+/// How many funnels there may be.
+pub const FUNNEL_COUNT: Limits = Limits { low: 0, high: 64 };
+
+/// A part of the landing direction.
+pub const DIRECTION: Limits = Limits {
+    low: -10_000,
+    high: 10_000,
+};
+
+/// The altitude of a threshold, in feet.
+pub const ELEVATION_FEET: Limits = Limits {
+    low: -2000,
+    high: 20_000,
+};
+
+/// How far before the threshold a funnel begins, in metres.
+pub const REACH_METRES: Limits = Limits {
+    low: 1,
+    high: 100_000,
+};
+
+/// The greatest altitude of a captured track, in feet.
+pub const CAPTURE_FEET: Limits = Limits {
+    low: -2000,
+    high: 60_000,
+};
+
+/// Half the width of a funnel at the threshold, in metres, and how much wider it is for each 10,000 m before it.
+pub const HALF_METRES: Limits = Limits {
+    low: 0,
+    high: 20_000,
+};
+
+pub const SIDE_METRES: Limits = Limits {
+    low: 0,
+    high: 10_000,
+};
+
+/// A slope's height above the elevation at the threshold, in feet, and how much higher it is for each 10,000 m before
+/// it.
+pub const BASE_FEET: Limits = Limits {
+    low: -5000,
+    high: 5000,
+};
+
+pub const RISE_FEET: Limits = Limits {
+    low: 0,
+    high: 20_000,
+};

@@ -2,6 +2,8 @@
 ghost use Rattle.std.specs.Prelude.{◌≡◌};
 
 use crate::airspace::{Regions, Volumes};
+use crate::file_name::FileName;
+use crate::funnel::Funnels;
 use std::marker::Model;
 
 /// Where the nets stand in lists of four.
@@ -133,6 +135,8 @@ pub struct Site {
     pub qnh: i32,
     /// The codes of tracks that no net warns of.
     pub codes: Codes,
+    /// The terrain's file, where there is one.
+    pub terrain: Option<FileName>,
     /// When each net's alerts are on.
     pub confirm: [Confirm; 4],
     /// At least one.
@@ -141,4 +145,6 @@ pub struct Site {
     pub regions: Regions,
     /// The volumes that APW warns of.
     pub volumes: Volumes,
+    /// The funnels that APM keeps approaches in.
+    pub funnels: Funnels,
 }

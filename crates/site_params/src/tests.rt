@@ -6,6 +6,9 @@ use std::process::Abort;
 use std::test::Fail;
 
 mod airspace;
+mod funnels;
+
+use funnels::FUNNEL;
 
 const SITE_A: &str = "sac = 25
 sic = 100
@@ -73,7 +76,7 @@ fn expect_fault(rt: &impl Abort, alloc: Global, text: &str, fault: SiteFault) {
 #[derive(Clone, Copy)]
 struct Row(&'static str, u16, [i64; 2], i64, [i64; 2]);
 
-const ROWS: [Row; 17] = [
+const ROWS: [Row; 32] = [
     Row("sac", 2, [0, 255], 1, [0, 255]),
     Row("sic", 3, [0, 255], 1, [0, 255]),
     Row("start", 4, [0, 86_399], 1, [0, 11_059_072]),
@@ -91,19 +94,59 @@ const ROWS: [Row; 17] = [
     Row("now_v_low", 30, [25, 10_000], 25, [30_720, 12_288_000]),
     Row("now_v_high", 31, [25, 10_000], 25, [30_720, 12_288_000]),
     Row("urgent", 32, [0, 120], 1, [0, 15_360]),
+    Row(
+        "x",
+        47,
+        [-4_194_303, 4_194_303],
+        1,
+        [-2_147_483_136, 2_147_483_136],
+    ),
+    Row(
+        "y",
+        48,
+        [-4_194_303, 4_194_303],
+        1,
+        [-2_147_483_136, 2_147_483_136],
+    ),
+    Row("dx", 49, [-10_000, 10_000], 1, [-10_000, 10_000]),
+    Row("dy", 50, [-10_000, 10_000], 1, [-10_000, 10_000]),
+    Row("elevation", 51, [-2000, 20_000], 1, [-2000, 20_000]),
+    Row("reach", 52, [1, 100_000], 1, [1, 100_000]),
+    Row("ceiling", 53, [-2000, 60_000], 25, [-2_457_600, 73_728_000]),
+    Row("capture_half", 54, [0, 20_000], 1, [0, 20_000]),
+    Row("capture_side", 55, [0, 10_000], 1, [0, 10_000]),
+    Row("half", 56, [0, 20_000], 1, [0, 20_000]),
+    Row("side", 57, [0, 10_000], 1, [0, 10_000]),
+    Row("low_base", 58, [-5000, 5000], 1, [-5000, 5000]),
+    Row("low_rise", 59, [0, 20_000], 1, [0, 20_000]),
+    Row("high_base", 60, [-5000, 5000], 1, [-5000, 5000]),
+    Row("high_rise", 61, [0, 20_000], 1, [0, 20_000]),
 ];
 
 /// What the site has of the field of this number.
 fn value_of(site: &Site, number: u16) -> i64 {
-    let Some(set) = site.sets.as_slice().first() else {
-        return -1;
-    };
     match number {
         2 => i64::from(site.sac),
         3 => i64::from(site.sic),
         4 => site.start,
         5 => site.period,
         6 => site.timeout,
+        ..33 => site
+            .sets
+            .as_slice()
+            .first()
+            .map_or(-1, |set| value_of_set(set, number)),
+        _ => site
+            .funnels
+            .as_slice()
+            .first()
+            .map_or(-1, |funnel| funnels::value_of(funnel, number)),
+    }
+}
+
+/// What the set has of the field of this number.
+fn value_of_set(set: &Set, number: u16) -> i64 {
+    match number {
         21 => set.look[0],
         22 => set.look[1],
         23 => set.look[2],
@@ -120,21 +163,32 @@ fn value_of(site: &Site, number: u16) -> i64 {
     }
 }
 
-/// The site file with this value at the key.
-fn with_value(alloc: Global, key: &str, value: &str) -> Result<String, Fail> {
-    edited(alloc, key, &format!(in alloc; "{key} = {value}")?)
+/// The example with a funnel, and with this line at the key.
+fn with_field(alloc: Global, key: &str, line: &str) -> Result<String, Fail> {
+    let whole = format!(in alloc; "{SITE_A}{FUNNEL}")?;
+    with_line(alloc, &whole, &format!(in alloc; "{key} =")?, line)
 }
 
-/// The site file with this number at the key.
+/// The example with a funnel, and with this value at the key.
+fn with_value(alloc: Global, key: &str, value: &str) -> Result<String, Fail> {
+    with_field(alloc, key, &format!(in alloc; "{key} = {value}")?)
+}
+
+/// The example with a funnel, and with this number at the key.
 fn with_number(alloc: Global, key: &str, number: i64) -> Result<String, Fail> {
-    edited(alloc, key, &format!(in alloc; "{key} = {number}")?)
+    with_field(alloc, key, &format!(in alloc; "{key} = {number}")?)
 }
 
 /// The field absent, and of other kinds.
 fn expect_kind(rt: &impl Abort, alloc: Global, row: &Row) -> Result<(), Fail> {
     let Row(key, number, ..) = *row;
     let at = Field { number, entry: 0 };
-    expect_fault(rt, alloc, &edited(alloc, key, "")?, SiteFault::Missing(at));
+    expect_fault(
+        rt,
+        alloc,
+        &with_field(alloc, key, "")?,
+        SiteFault::Missing(at),
+    );
     for value in ["true", "\"4\"", "4.0", "[4]", "{}"] {
         expect_fault(
             rt,
@@ -203,7 +257,7 @@ fn numbers_past_their_ranges(rt: HostRuntime) -> Result<(), Fail> {
 #[derive(Clone, Copy)]
 struct Shown(&'static str, &'static str, &'static str);
 
-const SHOWN: [Shown; 19] = [
+const SHOWN: [Shown; 22] = [
     Shown("sac", "sac = 25", "Site { sac: 25, sic: 100, "),
     Shown(
         "sac",
@@ -249,7 +303,14 @@ const SHOWN: [Shown; 19] = [
     Shown(
         "sac",
         "sac = 25",
-        "regions: Regions { regions: [] }, volumes: Volumes { volumes: [] } }",
+        "regions: Regions { regions: [] }, volumes: Volumes { volumes: [] }, ",
+    ),
+    Shown("sac", "sac = 25", "funnels: Funnels { funnels: [] } }"),
+    Shown("sac", "sac = 25", "terrain: None, confirm: "),
+    Shown(
+        "codes",
+        "terrain = \"t.ter\"",
+        "terrain: Some(FileName { name: \"t.ter\" }), confirm: ",
     ),
     Shown(
         "codes",
@@ -307,10 +368,9 @@ enum Why {
     OutOfRange(i64),
     NameOf(u32),
     Unknown,
-    NotYetBuilt,
 }
 
-use Why::{Absent, NameOf, NotYetBuilt, OtherKind, OutOfRange, Unknown};
+use Why::{Absent, NameOf, OtherKind, OutOfRange, Unknown};
 
 fn fault_of(number: u16, entry: u32, why: Why) -> SiteFault {
     let at = Field { number, entry };
@@ -320,7 +380,6 @@ fn fault_of(number: u16, entry: u32, why: Why) -> SiteFault {
         OutOfRange(value) => SiteFault::Range(at, value),
         NameOf(first) => SiteFault::Twice(at, first),
         Unknown => SiteFault::NoSuchName(at),
-        NotYetBuilt => SiteFault::NotBuilt(at),
     }
 }
 
@@ -328,7 +387,7 @@ fn fault_of(number: u16, entry: u32, why: Why) -> SiteFault {
 #[derive(Clone, Copy)]
 struct Case(&'static str, &'static str, u16, Why);
 
-const CASES: [Case; 60] = [
+const CASES: [Case; 64] = [
     Case("sac", "version = 0", 1, OutOfRange(0)),
     Case("sac", "version = 2", 1, OutOfRange(2)),
     Case("sac", "version = true", 1, OtherKind),
@@ -340,8 +399,9 @@ const CASES: [Case; 60] = [
     Case("codes", "codes = [4096, true]", 8, OtherKind),
     Case("codes", "codes = [-1, 4096]", 8, OutOfRange(-1)),
     Case("codes", "codes = [0, 4095, 4096]", 8, OutOfRange(4096)),
-    Case("codes", "terrain = \"t.ter\"", 9, NotYetBuilt),
-    Case("codes", "terrain = 3", 9, NotYetBuilt),
+    Case("codes", "terrain = \"\"", 9, OutOfRange(0)),
+    Case("codes", "terrain = 3", 9, OtherKind),
+    Case("codes", "terrain = [\"t.ter\"]", 9, OtherKind),
     Case("[confirm]", "[other]", 10, Absent),
     Case("[confirm]", "[[confirm]]", 10, OtherKind),
     Case("stca = [", "", 11, Absent),
@@ -379,16 +439,29 @@ const CASES: [Case; 60] = [
     Case("urgent", "urgent = 0\n[region]", 33, OtherKind),
     Case("urgent", "urgent = 0\n[[volume]]", 40, Absent),
     Case("urgent", "urgent = 0\n[volume]", 39, OtherKind),
-    Case("codes", "funnel = []", 45, NotYetBuilt),
+    Case("urgent", "urgent = 0\n[[funnel]]", 46, Absent),
+    Case("urgent", "urgent = 0\n[funnel]", 45, OtherKind),
     // Of several faults that of the lowest number counts, wherever it stands.
     Case("sic", "qnh = 1", 3, Absent),
     Case("timeout", "terrain = 1", 6, Absent),
-    Case("[confirm]", "terrain = 1\n[other]", 9, NotYetBuilt),
+    Case("codes", "terrain = \"\"\ncodes = 1", 8, OtherKind),
+    Case(
+        "[confirm]",
+        "funnel = 1\nterrain = 1\n[other]",
+        9,
+        OtherKind,
+    ),
+    Case(
+        "[confirm]",
+        "funnel = 1\nterrain = \"t\"\n[other]",
+        10,
+        Absent,
+    ),
     Case("apm = [", "apm = 1\n[[region]]", 14, OtherKind),
     Case("urgent", "[funnel]\n[volume]\n[region]", 32, Absent),
     Case("codes", "funnel = 1\nvolume = 1", 39, OtherKind),
     Case("codes", "volume = 1\nregion = [1]", 33, OtherKind),
-    Case("codes", "funnel = 1\nvolume = []", 45, NotYetBuilt),
+    Case("codes", "funnel = 1\nvolume = []", 45, OtherKind),
     Case("urgent", "urgent = 121\n[[region]]", 32, OutOfRange(121)),
 ];
 
@@ -516,6 +589,27 @@ fn codes_and_names_as_long_as_they_may_be(rt: HostRuntime) -> Result<(), Fail> {
     assert!(rt; read_site(alloc, with_name(alloc, 32, "\"")?.as_bytes()).is_ok());
     let long = with_name(alloc, 32, "a\"")?;
     expect_fault(&rt, alloc, &long, fault_of(16, 0, OutOfRange(65)));
+    Ok(())
+}
+
+/// The site file with a terrain's name of so many letters of two octets, and then these.
+fn with_terrain(alloc: Global, count: u32, last: &str) -> Result<String, Fail> {
+    edited(
+        alloc,
+        "codes",
+        &repeated(alloc, "terrain = \"", "\u{E9}", count, last)?,
+    )
+}
+
+#[test]
+fn names_of_a_terrain(rt: HostRuntime) -> Result<(), Fail> {
+    let alloc = rt.alloc();
+    let site = read_site(alloc, with_terrain(alloc, 0, "t\"")?.as_bytes())?;
+    assert!(rt; matches!(&site.terrain, Some(name) if name.as_str() == "t"));
+    let site = read_site(alloc, with_terrain(alloc, 127, "t\"")?.as_bytes())?;
+    assert_eq!(rt; site.terrain.map_or(0, |name| name.as_str().len()), 255);
+    let long = with_terrain(alloc, 128, "\"")?;
+    expect_fault(&rt, alloc, &long, fault_of(9, 0, OutOfRange(256)));
     Ok(())
 }
 

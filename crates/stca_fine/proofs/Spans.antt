@@ -10,7 +10,7 @@ use Rattle.stca_fine.specs.Relative.{RelativeMotion, IsNear, IsWithin, is_within
 use Rattle.stca_fine.specs.Stca.{first_within}
 use Rattle.stca_fine.proofs.Apart.{as_is}
 use Rattle.stca_fine.proofs.Within.{within_true, within_false}
-use Rattle.stca_fine.proofs.Searches.{find_first, find_none}
+use Rattle.stca_fine.proofs.Searches.{OnlyThatIsFound}
 use borrow.Author.Differences.{up, down, neg_is}
 
 -- where the facts are the same, so are the ticks
@@ -44,25 +44,27 @@ where_both P Q l a b met in_a in_b members proper = record {
 natural : (l : ℤ) → IsLook l → pos (unsigned_abs l) ≡ l
 natural l look = let low = look.low in omega (arith, ints)
 
-pub none_within : (r : RelativeMotion) (h v l : ℤ) → IsLook l → AreTicksWhere (IsWithin r h v) l Empty → first_within r h v (unsigned_abs l) ≡ None
-none_within r h v l look none = find_none (is_within r h v) (unsigned_abs l)
+pub none_within : OnlyThatIsFound → (r : RelativeMotion) (h v l : ℤ) → IsLook l → AreTicksWhere (IsWithin r h v) l Empty → first_within r h v (unsigned_abs l) ≡ None
+none_within only r h v l look none = only (is_within r h v) (unsigned_abs l) None
     (λ t inside. within_false r h v t (λ holds. none.all (pos t) (omega (arith, ints)) (let same = natural l look in omega (arith, ints)) holds))
 
-pub some_within : (r : RelativeMotion) (h v l first last : ℤ) → IsLook l → AreTicksWhere (IsWithin r h v) l (Span first last) → first_within r h v (unsigned_abs l) ≡ Some (unsigned_abs first)
-some_within r h v l first last look ticks =
+pub some_within : OnlyThatIsFound → (r : RelativeMotion) (h v l first last : ℤ) → IsLook l → AreTicksWhere (IsWithin r h v) l (Span first last) → first_within r h v (unsigned_abs l) ≡ Some (unsigned_abs first)
+some_within only r h v l first last look ticks =
     let proper : first ≤ℤ last = ticks.proper in
     let member : (first ≤ℤ first) × (first ≤ℤ last) = (omega (arith, ints), proper) in
     let inside = ticks.within first member in
     let low : pos 0 ≤ℤ first = inside.0 in
     let high : first ≤ℤ l = inside.1 in
     let same : pos (unsigned_abs first) ≡ first = omega (arith, ints) in
-    find_first (is_within r h v) (unsigned_abs l) (unsigned_abs first) (omega (arith, ints))
-    (within_true r h v (unsigned_abs first) (rw same (ticks.holds first member)))
-    (λ t before. within_false r h v t
-    (λ holds.
-    let found : (first ≤ℤ pos t) × (pos t ≤ℤ last) = ticks.all (pos t) (omega (arith, ints)) (omega (arith, ints)) holds in
-    let late : first ≤ℤ pos t = found.0 in
-    omega (arith, ints)))
+    only (is_within r h v) (unsigned_abs l) (Some (unsigned_abs first)) (record {
+      ahead = omega (arith, ints);
+      passes = within_true r h v (unsigned_abs first) (rw same (ticks.holds first member));
+      earlier = λ t before. within_false r h v t
+          (λ holds.
+          let found : (first ≤ℤ pos t) × (pos t ≤ℤ last) = ticks.all (pos t) (omega (arith, ints)) (omega (arith, ints)) holds in
+          let late : first ≤ℤ pos t = found.0 in
+          omega (arith, ints));
+    })
 
 -- the first of them is a tick
 pub first_is : (P : ℤ → Type 0) (l first last : ℤ) → IsLook l → AreTicksWhere P l (Span first last) → to_z w64 (of_z w64 first) ≡ pos (unsigned_abs first)

@@ -1,14 +1,16 @@
 -- Short term conflict alert in words: when a pair is hit, and what its first and its closest tick are (this project's profile).
 use Rattle.std.specs.Prelude.{◌≡◌, ◌⊎◌, ℕ, ◌<◌, ◌≤◌, ℤ, pos, ◌≤ℤ◌}
 use Rattle.tick_sets.specs.Plane.{scalar_product}
+use Rattle.site_params.specs.Looks.{look_of}
 use Rattle.site_params.specs.declared.site.Set.{Set}
+use Rattle.site_params.specs.declared.site.TheConstants.{STCA}
 use Rattle.track_motion.specs.declared.motion.Motion.{Motion}
 use Rattle.stca_fine.specs.Relative.{IsWithin, relative, squared_at}
-use Rattle.stca_fine.specs.Stca.{look_of, now_v_of, v_of}
+use Rattle.stca_fine.specs.Stca.{now_v_of, v_of}
 
 -- linear prediction holds at a tick: it is one of the look-ahead, and the two are nearer than both limits then
 pub record IsConflict (a b : Motion) (set : Set) (t : ℕ) : Type 0 where
-  pub ahead : t ≤ look_of set
+  pub ahead : t ≤ look_of STCA set
   pub within : IsWithin (relative a b) set.h (v_of a b set) (pos t)
 
 -- current proximity holds: at tick 0 the two are nearer than both limits, and their distance doesn't grow
@@ -38,4 +40,4 @@ pub record IsLeastOf (f : ℕ → ℕ) (last t : ℕ) : Type 0 where
 
 -- the closest tick of a hit: at no tick of the look-ahead the two are nearer, and at each earlier one they are farther apart
 abbrev pub IsClosest : Motion → Motion → Set → ℤ → Type 0
-IsClosest a b set closest = (t : ℕ) × (closest ≡ pos t) × IsLeastOf (squared_at (relative a b)) (look_of set) t
+IsClosest a b set closest = (t : ℕ) × (closest ≡ pos t) × IsLeastOf (squared_at (relative a b)) (look_of STCA set) t

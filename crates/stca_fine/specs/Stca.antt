@@ -1,21 +1,14 @@
 -- Short term conflict alert: which pairs are hit, and the figures of a hit (in outline after EUROCONTROL's guidance
 -- material for STCA; rules and numbers are this project's profile).
-use Rattle.std.specs.Prelude.{ℕ, ◌+◌, ◌≤◌, min, Bool, ◌&&◌, ◌||◌, int_le, List, find, slice_get, Option, Some, option_map, unwrap_or, unsigned_abs, ℤ, pos, ◌≤ℤ◌, if◌then◌else◌}
-use Rattle.std.specs.List.{range_with_len}
+use Rattle.std.specs.Prelude.{ℕ, ◌≤◌, min, Bool, ◌&&◌, ◌||◌, int_le, find, Option, Some, option_map, ℤ, pos, ◌≤ℤ◌, if◌then◌else◌}
+use Rattle.tick_sets.specs.Searches.{ticks_to}
+use Rattle.site_params.specs.Looks.{look_of}
 use Rattle.site_params.specs.declared.site.Set.{Set}
 use Rattle.site_params.specs.declared.site.TheConstants.{STCA}
 use Rattle.track_motion.specs.declared.motion.Motion.{Motion}
 use Rattle.stca_fine.specs.declared.hit.StcaHit.{StcaHit}
 use Rattle.stca_fine.specs.declared.hit.TheConstants.{LARGEST_CHS, LARGEST_SEPARATION}
 use Rattle.stca_fine.specs.Relative.{RelativeMotion, relative, closest_tick, horizontal, vertical, is_within, is_closing}
-
--- the last tick that the set looks ahead to
-abbrev pub look_of : Set → ℕ
-look_of set = unsigned_abs (unwrap_or (slice_get set.look STCA) (pos 0))
-
--- each tick of a look-ahead, from tick 0 on
-abbrev pub ticks_to : ℕ → List ℕ
-ticks_to look = range_with_len 0 (look + 1)
 
 -- a pair's vertical limit: the lower one where both levels at tick 0 are at or below the split
 abbrev pub by_split : Motion → Motion → Set → ℤ → ℤ → ℤ
@@ -39,7 +32,7 @@ abbrev pub first_within : RelativeMotion → ℤ → ℤ → ℕ → Option ℕ
 first_within r h v look = find (is_within r h v) (ticks_to look)
 
 abbrev pub first_predicted : Motion → Motion → Set → Option ℕ
-first_predicted a b set = first_within (relative a b) set.h (v_of a b set) (look_of set)
+first_predicted a b set = first_within (relative a b) set.h (v_of a b set) (look_of STCA set)
 
 -- the first tick of the conflict: 0 in current proximity, else the first of linear prediction
 abbrev pub first_tick : Motion → Motion → Set → Option ℕ
@@ -59,7 +52,7 @@ figures_at r set current closest first = record {
 }
 
 abbrev pub figures : RelativeMotion → Set → Bool → ℕ → StcaHit
-figures r set current first = figures_at r set current (closest_tick r (look_of set)) first
+figures r set current first = figures_at r set current (closest_tick r (look_of STCA set)) first
 
 -- the hit of a pair: there where current proximity holds now, or linear prediction at some tick of the look-ahead
 abbrev pub stca_hit : Motion → Motion → Set → Option StcaHit
@@ -68,7 +61,7 @@ stca_hit a b set = option_map (figures (relative a b) set (is_current a b set)) 
 -- a tick of the set's look-ahead
 pub record IsAhead (set : Set) (tick : ℤ) : Type 0 where
   pub low : pos 0 ≤ℤ tick
-  pub high : tick ≤ℤ pos (look_of set)
+  pub high : tick ≤ℤ pos (look_of STCA set)
 
 -- the figures fit their fields
 pub record IsInRoom (set : Set) (hit : StcaHit) : Type 0 where

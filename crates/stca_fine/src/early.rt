@@ -7,6 +7,7 @@ ghost use Rattle.stca_fine.specs.Stca.{stca_hit};
 
 use crate::limits::{greater_h, greater_v, look_ahead};
 use site_params::Set;
+use tick_sets::laws::searches_find_the_first;
 use track_motion::Motion;
 
 /// Along one axis alone the two stay at the greater of its two limits or beyond it, for the whole
@@ -16,6 +17,8 @@ pub fn stay_apart(a: &Motion, b: &Motion, set: &Set) -> bool
     requires set { IsSet set.now }
     ensures { IsTrue result → stca_hit a.now b.now set.now ≡ None }
 {
+    // The proof takes this law; the call does nothing.
+    searches_find_the_first();
     let look = look_ahead(set);
     let h = greater_h(set);
     stays_beyond(b.x - a.x, b.vx - a.vx, h, look)

@@ -5,15 +5,23 @@ ghost use Rattle.track_motion.specs.declared.motion.Motion.{Motion};
 ghost use Rattle.stca_fine.specs.Conflicts.{IsClosest, IsFirst, IsHit};
 ghost use Rattle.stca_fine.specs.Stca.{stca_hit};
 
+use tick_sets::laws::searches_find_the_first;
+
 /// A pair is hit exactly where current proximity holds, or linear prediction at some tick of the look-ahead.
 pub fn hit_where_a_filter_holds()
     ensures { (a b : Motion) (set : Set) → IsSome (stca_hit a b set) ↔ IsHit a b set }
-{}
+{
+    // The proof takes this law.
+    searches_find_the_first();
+}
 
 /// The first tick is 0 in current proximity, else the least tick at which linear prediction holds.
 pub fn first_is_least()
     ensures { (a b : Motion) (set : Set) → IfSome (stca_hit a b set) (λ hit. IsFirst a b set hit.first) }
-{}
+{
+    // The proof takes this law.
+    searches_find_the_first();
+}
 
 /// The closest tick is the least one at which the two are nearest.
 pub fn closest_is_least()

@@ -1,9 +1,10 @@
 //! What a set says of a pair: how far it looks ahead, and the limits.
 ghost use Rattle.std.specs.Prelude.{◌≡◌, ◌≤ℤ◌, pos};
 ghost use Rattle.tick_sets.specs.Inequalities.{IsLook};
+ghost use Rattle.site_params.specs.Looks.{look_of};
 ghost use Rattle.site_params.specs.Ranges.{IsSet};
 ghost use Rattle.stca_fine.specs.Relative.{IsLimit};
-ghost use Rattle.stca_fine.specs.Stca.{by_split as split_limit, look_of, now_v_of, v_of};
+ghost use Rattle.stca_fine.specs.Stca.{by_split as split_limit, now_v_of, v_of};
 
 use site_params::{STCA, Set};
 use track_motion::Motion;
@@ -11,7 +12,7 @@ use track_motion::Motion;
 /// The last tick that the set looks ahead to.
 pub fn look_ahead(set: &Set) -> i64
     requires { IsSet set.now }
-    ensures look { result ≡ pos (look_of set.now) }
+    ensures look { result ≡ pos (look_of STCA set.now) }
     ensures range { IsLook result }
 {
     set.look[STCA]

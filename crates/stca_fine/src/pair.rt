@@ -11,6 +11,7 @@ use crate::relative::Relative;
 use outside_io::Steps;
 use site_params::Set;
 use std::sync::ledger::Ledger;
+use tick_sets::laws::searches_find_the_first;
 use track_motion::Motion;
 
 /// The hit of a pair of tracks by the pair's set. None where the pair isn't hit. It counts one step.
@@ -45,6 +46,8 @@ fn examine_near(a: &Motion, b: &Motion, set: &Set) -> Option<StcaHit>
     if apart.is_in_proximity(set.now_h, now_v) {
         return Some(figures(&apart, set, true, 0));
     }
+    // The proof takes this law; the call does nothing.
+    searches_find_the_first();
     let v = by_split(a, b, set, set.v_low, set.v_high);
     let first = apart.first_within(set.h, v, look_ahead(set))?;
     Some(figures(&apart, set, false, first))

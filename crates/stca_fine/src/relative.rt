@@ -7,7 +7,7 @@ ghost use Rattle.stca_fine.specs.Relative.{ArePair, IsDrift, IsLevel, IsLimit, I
 ghost use Rattle.stca_fine.specs.Stca.{first_within as first_tick_within, is_in_proximity as proximity};
 
 use std::marker::Model;
-use tick_sets::laws::squared_length_is_parabola;
+use tick_sets::laws::{searches_find_the_first, squared_length_is_parabola};
 use tick_sets::{Ticks, isqrt, least_tick, linear, meet, quadratic};
 use track_motion::Motion;
 use track_motion::motion::{HEIGHT_UNITS_PER_25_FEET, LENGTH_UNITS_PER_HALF_METRE};
@@ -62,6 +62,8 @@ impl Relative {
         requires { IsReach h v look }
         ensures { result ≡ option_map pos (first_tick_within self.now h v (unsigned_abs look)) }
     {
+        // The proof takes this law; the call does nothing.
+        searches_find_the_first();
         match self.ticks_within(h, v, look) {
             Ticks::Empty => None,
             Ticks::Span { first, .. } => Some(first),

@@ -1,8 +1,9 @@
 // Expected values are worked out by hand: distances along one axis, and squares of whole numbers.
 ghost use Rattle.std.specs.Prelude.{◌≡◌, ◌<◌, All, IsTrue};
-ghost use Rattle.site_params.specs.Ranges.{IsIn, IsSet};
+ghost use Rattle.site_fields.specs.Ranges.{IsIn};
+ghost use Rattle.site_params.specs.Ranges.{IsSet};
 ghost use Rattle.site_params.specs.declared.ranges.TheConstants.{LOOK_SECONDS};
-ghost use Rattle.site_params.specs.declared.numbers.TheConstants.{TICKS_PER_SECOND};
+ghost use Rattle.site_fields.specs.declared.numbers.TheConstants.{TICKS_PER_SECOND};
 ghost use Rattle.stca_fine.specs.Relative.{ArePair};
 
 use crate::{StcaHit, examine};

@@ -9,5 +9,6 @@ pub mod OddSets
 pub mod Parabolas
 pub mod Products
 pub mod Roots
+pub mod Searches
 pub mod Steps
 pub mod Where

@@ -1,6 +1,9 @@
 // At which ticks of a look-ahead an inequality holds, in whole numbers. A tick is 1/128 s.
 #![tactic(auto)]
 
+ghost use Rattle.std.specs.Prelude.{◌≡◌};
+ghost use Rattle.tick_sets.specs.Searches.{hit_from};
+
 mod inequality;
 pub mod laws;
 mod parity;
@@ -26,6 +29,18 @@ pub enum Ticks {
 pub struct TickHit {
     pub first: i64,
     pub urgent: bool,
+}
+
+impl TickHit {
+    /// The hit from this tick on: urgent where that is at most the limit.
+    pub fn from_tick(first: i64, limit: i64) -> TickHit
+        ensures { result ≡ hit_from limit first }
+    {
+        TickHit {
+            first,
+            urgent: first <= limit,
+        }
+    }
 }
 
 #[cfg(test)]

@@ -1,4 +1,4 @@
-use crate::{Ticks, isqrt, least_tick, linear, meet, odd_first, quadratic};
+use crate::{TickHit, Ticks, isqrt, least_tick, linear, meet, odd_first, quadratic};
 use std::test::Fail;
 
 const TOP_A: i128 = 0x3_ffff_ffff;
@@ -207,4 +207,18 @@ fn first_ticks_in_an_odd_number(rt: HostRuntime) -> Result<(), Fail> {
         assert_eq!(rt; odd_first(rt.alloc(), sets, within)?, want);
     }
     Ok(())
+}
+
+/// A hit is urgent up to the limit.
+#[test]
+fn urgent_hits(rt: HostRuntime) {
+    let rows = [
+        (0, 0, true),
+        (1, 0, false),
+        (384, 384, true),
+        (385, 384, false),
+    ];
+    for (first, limit, urgent) in rows {
+        assert_eq!(rt; TickHit::from_tick(first, limit), TickHit { first, urgent });
+    }
 }

@@ -2,8 +2,7 @@
 
 use super::feeds::{ALERT, FIRST, SECOND, joined};
 use super::outside::{NO_FAULT, Outside, expect, expect_faults, expect_report, replayed};
-use super::site::SITE_A;
-use std::alloc::{AllocError, Global};
+use super::site::{changed, site_with};
 use std::test::Fail;
 
 /// A volume over the place of the first track at the cycle's end, 500 m east of the corner at (0, 0).
@@ -60,23 +59,6 @@ floor = 33000
 ceiling = 34000
 points = [[4000, -1000], [5000, -1000], [5000, 1000], [4000, 1000]]
 ";
-
-/// The site of the tests with this behind it.
-fn site_with(alloc: Global, more: &str) -> Result<String, AllocError> {
-    let mut site = String::from_str(alloc, SITE_A)?;
-    site.push_str(more)?;
-    Ok(site)
-}
-
-/// The text with the first place where `old` stands written otherwise.
-fn changed(alloc: Global, text: &str, old: &str, new: &str) -> Result<String, AllocError> {
-    let mut other = String::new(alloc);
-    for line in text.lines() {
-        other.push_str(if line == old { new } else { line })?;
-        other.push_str("\n")?;
-    }
-    Ok(other)
-}
 
 /// A track inside a volume, alone and beside a track that it meets; and a volume whose floor is above it.
 #[test]

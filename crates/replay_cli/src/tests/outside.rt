@@ -12,16 +12,18 @@ use std::marker::Brand;
 use std::process::Abort;
 use std::sync::ledger::{Blank, Ledger};
 
-/// The names that the world knows: those of two feeds and the site's.
+/// The names that the world knows: those of two feeds, the site's and the terrain's.
 pub const NAME: &str = "a.ast";
 
 pub const OTHER: &str = "b.ast";
 
 pub const SITE: &str = "site.toml";
 
-/// The outside of a run: the feed behind `NAME`, another behind `OTHER` and the site behind `SITE`, the feed that is
-/// asked for, how reads and writes are cut, and the calls that fail. Calls are numbered from 0; the site is opened
-/// first.
+pub const TERRAIN: &str = "t.ter";
+
+/// The outside of a run: the feed behind `NAME`, another behind `OTHER`, the site behind `SITE` and the terrain behind
+/// `TERRAIN`, the feed that is asked for, how reads and writes are cut, and the calls that fail. Calls are numbered
+/// from 0; the site is opened first, and then the terrain, where the site names it.
 #[derive(Clone, Copy)]
 pub struct Outside<'a> {
     pub site: &'a [u8],
@@ -33,6 +35,9 @@ pub struct Outside<'a> {
     pub failing_other_reads: &'a [u64],
     pub site_cuts: &'a [u32],
     pub failing_site_reads: &'a [u64],
+    pub terrain: &'a [u8],
+    pub terrain_cuts: &'a [u32],
+    pub failing_terrain_reads: &'a [u64],
     pub report_takes: &'a [u32],
     pub failing_reports: &'a [u64],
     pub failing_opens: &'a [u64],
@@ -53,6 +58,9 @@ impl<'a> Outside<'a> {
             failing_other_reads: &[],
             site_cuts: &[],
             failing_site_reads: &[],
+            terrain: &[],
+            terrain_cuts: &[],
+            failing_terrain_reads: &[],
             report_takes: &[],
             failing_reports: &[],
             failing_opens: &[],
@@ -146,7 +154,7 @@ fn file_of(
     })
 }
 
-/// A world that knows the feeds as `NAME` and `OTHER` and the site as `SITE`.
+/// A world that knows the feeds as `NAME` and `OTHER`, the site as `SITE` and the terrain as `TERRAIN`.
 pub fn world_of(alloc: Global, outside: Outside<'_>) -> Result<MemWorld, AllocError> {
     let mut files = Vec::new(alloc);
     let (cuts, fail) = (outside.cuts, outside.failing_reads);
@@ -155,6 +163,8 @@ pub fn world_of(alloc: Global, outside: Outside<'_>) -> Result<MemWorld, AllocEr
     files.push(file_of(alloc, OTHER, outside.other, &[], fail)?)?;
     let (cuts, fail) = (outside.site_cuts, outside.failing_site_reads);
     files.push(file_of(alloc, SITE, outside.site, cuts, fail)?)?;
+    let (cuts, fail) = (outside.terrain_cuts, outside.failing_terrain_reads);
+    files.push(file_of(alloc, TERRAIN, outside.terrain, cuts, fail)?)?;
     Ok(MemWorld {
         files,
         fail: outside.failing_opens.to_vec(alloc)?,

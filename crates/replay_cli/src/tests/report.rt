@@ -1,7 +1,7 @@
 //! Reports and fault texts, by hand.
 
 use crate::report::{FeedCount, FeedCounts, Refusals, Report, report_text};
-use crate::texts::{FaultText, USAGE, tell};
+use crate::texts::{FaultText, Refusal, USAGE, tell};
 use crate::words::Name;
 use asterix_blocks::End;
 use asterix_fields::ItemFault;
@@ -11,6 +11,7 @@ use site_params::{Field, SiteFault};
 use std::alloc::{AllocError, Global};
 use std::process::Abort;
 use std::test::Fail;
+use terrain_file::TerrainFault;
 
 /// A feed of which only the refusals and the end are told.
 fn feed(
@@ -222,7 +223,7 @@ fn site_texts(rt: HostRuntime) -> Result<(), Fail> {
         number: 16,
         entry: 63,
     };
-    let cases: [(SiteFault, &str); 11] = [
+    let cases: [(SiteFault, &str); 10] = [
         (SiteFault::Syntax, "site refused: 1\n"),
         (
             SiteFault::Missing(inner),
@@ -250,14 +251,42 @@ fn site_texts(rt: HostRuntime) -> Result<(), Fail> {
             "site refused: 6 field 16 entry 63\n",
         ),
         (SiteFault::Long, "site refused: 7\n"),
-        (
-            SiteFault::NotBuilt(outer),
-            "site refused: 8 field 9 entry 0\n",
-        ),
         (SiteFault::NoMemory, "out of memory\n"),
     ];
     for (fault, wanted) in cases {
-        check_text(&rt, alloc, &FaultText::Site(fault), wanted)?;
+        check_text(
+            &rt,
+            alloc,
+            &FaultText::Refused(Refusal::Site(fault)),
+            wanted,
+        )?;
+    }
+    Ok(())
+}
+
+#[test]
+fn terrain_texts(rt: HostRuntime) -> Result<(), Fail> {
+    let alloc = rt.alloc();
+    let cases: [(TerrainFault, &str); 5] = [
+        (TerrainFault::Magic, "terrain refused: 1\n"),
+        (TerrainFault::Cell(99), "terrain refused: 2 side 99\n"),
+        (
+            TerrainFault::Count(2049, 2),
+            "terrain refused: 3 columns 2049 rows 2\n",
+        ),
+        (
+            TerrainFault::Size(28, 27),
+            "terrain refused: 4 stated 28 found 27\n",
+        ),
+        (TerrainFault::NoMemory, "out of memory\n"),
+    ];
+    for (fault, wanted) in cases {
+        check_text(
+            &rt,
+            alloc,
+            &FaultText::Refused(Refusal::Terrain(fault)),
+            wanted,
+        )?;
     }
     Ok(())
 }

@@ -6,7 +6,7 @@ use super::outside::{
     run_words,
 };
 use super::plots::{HEAD_ON, Plot};
-use super::told::changed;
+use super::site::{SITE_A, changed};
 use std::alloc::{AllocError, Global};
 use std::test::Fail;
 
@@ -47,7 +47,7 @@ fn both(alloc: Global, site: &str, feed: &[u8], other: &[u8]) -> Result<Ran, All
 #[test]
 fn an_older_record_in_another_feed(rt: HostRuntime) -> Result<(), Fail> {
     let alloc = rt.alloc();
-    let site = super::site::SITE_A;
+    let site = SITE_A;
     let feed = joined(alloc, &[&FIRST, &SECOND])?;
     let older = Plot {
         time: Some(4_608_128),
@@ -72,7 +72,7 @@ messages 1
 #[test]
 fn records_at_one_time(rt: HostRuntime) -> Result<(), Fail> {
     let alloc = rt.alloc();
-    let site = super::site::SITE_A;
+    let site = SITE_A;
     let far = Plot {
         place: Some((-400_000, 0)),
         ..HEAD_ON
@@ -124,7 +124,7 @@ fn one_track_in_eight_feeds(rt: HostRuntime) -> Result<(), Fail> {
 #[test]
 fn over_midnight(rt: HostRuntime) -> Result<(), Fail> {
     let alloc = rt.alloc();
-    let site = changed(alloc, "start = 36000", "start = 86398")?;
+    let site = changed(alloc, SITE_A, "start = 36000", "start = 86398")?;
     let before = Plot {
         time: Some(11_059_100),
         ..HEAD_ON
@@ -148,7 +148,7 @@ fn over_midnight(rt: HostRuntime) -> Result<(), Fail> {
 #[test]
 fn a_hit_that_is_not_urgent(rt: HostRuntime) -> Result<(), Fail> {
     let alloc = rt.alloc();
-    let site = changed(alloc, "stca = [2, 3, 2]", "stca = [1, 3, 2]")?;
+    let site = changed(alloc, SITE_A, "stca = [2, 3, 2]", "stca = [1, 3, 2]")?;
     let east = Plot {
         place: Some((-1000, 0)),
         ..HEAD_ON
@@ -182,7 +182,7 @@ fn a_hit_that_is_not_urgent(rt: HostRuntime) -> Result<(), Fail> {
 fn faults_of_the_second_feed(rt: HostRuntime) -> Result<(), Fail> {
     let alloc = rt.alloc();
     let half = half_refused(alloc)?;
-    let ran = both(alloc, super::site::SITE_A, &SECOND, &half)?;
+    let ran = both(alloc, SITE_A, &SECOND, &half)?;
     expect(&rt, &ran, 7, &ALERT, "a refusal");
     let report = "cycles 1
 feed 0 blocks 1 passed 0 records 1 tracks 1 end clean

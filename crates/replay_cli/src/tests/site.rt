@@ -1,4 +1,6 @@
-//! The site of the tests.
+//! The site of the tests, and others that are made of it.
+
+use std::alloc::{AllocError, Global};
 
 /// A site of one set, as it stands in the examples.
 pub const SITE_A: &str = "sac = 25
@@ -33,3 +35,20 @@ now_v_low = 500
 now_v_high = 600
 urgent = 20
 ";
+
+/// The site of the tests with this behind it.
+pub fn site_with(alloc: Global, more: &str) -> Result<String, AllocError> {
+    let mut site = String::from_str(alloc, SITE_A)?;
+    site.push_str(more)?;
+    Ok(site)
+}
+
+/// The text with the lines that say `old` written otherwise.
+pub fn changed(alloc: Global, text: &str, old: &str, new: &str) -> Result<String, AllocError> {
+    let mut other = String::new(alloc);
+    for line in text.lines() {
+        other.push_str(if line == old { new } else { line })?;
+        other.push_str("\n")?;
+    }
+    Ok(other)
+}

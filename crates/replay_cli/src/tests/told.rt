@@ -5,7 +5,7 @@ use super::outside::{
     Faults, NAME, NO_FAULT, Outside, SITE, WORLD_FAULT, expect, expect_faults, expect_report,
     replayed, run_words,
 };
-use super::site::SITE_A;
+use super::site::{SITE_A, changed};
 use std::alloc::{AllocError, Global};
 use std::process::Abort;
 use std::test::Fail;
@@ -195,20 +195,6 @@ fn a_fault_text_that_fails(rt: HostRuntime) -> Result<(), Fail> {
     Ok(())
 }
 
-/// The site of the tests with one line of it written otherwise.
-pub fn changed(alloc: Global, old: &str, new: &str) -> Result<String, AllocError> {
-    let mut site = String::new(alloc);
-    for line in SITE_A.lines() {
-        if line == old {
-            site.push_str(new)?;
-        } else {
-            site.push_str(line)?;
-        }
-        site.push_str("\n")?;
-    }
-    Ok(site)
-}
-
 #[test]
 fn sites_that_are_refused(rt: HostRuntime) -> Result<(), Fail> {
     let alloc = rt.alloc();
@@ -226,18 +212,13 @@ fn sites_that_are_refused(rt: HostRuntime) -> Result<(), Fail> {
         ),
         ("sac = 25", "sac = ", "site refused: 1\n"),
         (
-            "sac = 25",
-            "sac = 25\nterrain = \"t.ter\"",
-            "site refused: 8 field 9 entry 0\n",
-        ),
-        (
             "urgent = 20",
             "urgent = -1",
             "site refused: 4 field 32 entry 0 value -1\n",
         ),
     ];
     for (old, new, report) in cases {
-        let site = changed(alloc, old, new)?;
+        let site = changed(alloc, SITE_A, old, new)?;
         let outside = Outside {
             site: site.as_bytes(),
             ..Outside::of(&FIRST)

@@ -19,7 +19,7 @@ active = [[36006, 40000], [86400, 0]]
 ";
 
 /// The example with these entries behind it.
-fn with_entries(alloc: Global, first: &str, second: &str) -> Result<String, Fail> {
+pub fn with_entries(alloc: Global, first: &str, second: &str) -> Result<String, Fail> {
     Ok(format!(in alloc; "{SITE_A}{first}{second}")?)
 }
 
@@ -30,9 +30,10 @@ fn with_edited(alloc: Global, entry: &str, front: &str, other: &str) -> Result<S
 }
 
 #[test]
-fn a_set_a_region_and_a_volume_of_one_name(rt: HostRuntime) -> Result<(), Fail> {
+fn entries_of_four_tables_of_one_name(rt: HostRuntime) -> Result<(), Fail> {
     let alloc = rt.alloc();
-    let site = read_site(alloc, with_entries(alloc, VOLUME, REGION)?.as_bytes())?;
+    let entries = with_entries(alloc, VOLUME, REGION)?;
+    let site = read_site(alloc, format!(in alloc; "{entries}{FUNNEL}")?.as_bytes())?;
     let text = format!(in alloc; "{:?} {:?}", site.regions, site.volumes)?;
     let region = "Regions { regions: [Region { set: 0, floor: -6144000, ceiling: 122880000, \
         points: Pairs { pairs: [(0, 0), (512000, 0), (0, -512)] } }] }";
@@ -43,16 +44,21 @@ fn a_set_a_region_and_a_volume_of_one_name(rt: HostRuntime) -> Result<(), Fail> 
         text.as_str(),
         format!(in alloc; "{region} {volume}")?.as_str()
     );
+    let funnel = "Funnels { funnels: [Funnel { x: 512000, y: -1024, dx: 0, dy: -1, elevation: 30, \
+        reach: 18520, ceiling: 6144000, capture_half: 100, capture_side: 1500, half: 200, side: 600, \
+        low_base: -100, low_rise: 1000, high_base: 250, high_rise: 2500 }] }";
+    assert_eq!(rt; format!(in alloc; "{:?}", site.funnels)?.as_str(), funnel);
     Ok(())
 }
 
 #[test]
 fn tables_and_times_without_entries(rt: HostRuntime) -> Result<(), Fail> {
     let alloc = rt.alloc();
-    let empty = edited(alloc, "codes", "region = []\nvolume = []")?;
+    let empty = edited(alloc, "codes", "region = []\nvolume = []\nfunnel = []")?;
     let site = read_site(alloc, empty.as_bytes())?;
     assert!(rt; site.regions.as_slice().is_empty());
     assert!(rt; site.volumes.as_slice().is_empty());
+    assert!(rt; site.funnels.as_slice().is_empty());
     Ok(())
 }
 
@@ -254,7 +260,7 @@ const VOLUME_CASES: [Case; 26] = [
     Case("floor", "funnel = 1\nfloor = 1", 41, OutOfRange(1)),
 ];
 
-fn expect_entry_cases(
+pub fn expect_entry_cases(
     rt: &impl Abort,
     alloc: Global,
     entry: &str,
@@ -370,7 +376,7 @@ fn points_and_times_as_many_as_there_may_be(rt: HostRuntime) -> Result<(), Fail>
 }
 
 /// So many entries, named by their numbers, of this text behind the name.
-fn many(alloc: Global, table: &str, count: u32, rest: &str) -> Result<String, Fail> {
+pub fn many(alloc: Global, table: &str, count: u32, rest: &str) -> Result<String, Fail> {
     let mut text = String::from_str(alloc, SITE_A)?;
     for entry in 0..count {
         text.push_str(&format!(in alloc; "[[{table}]]\nname = \"{entry}\"\n{rest}\n")?)?;

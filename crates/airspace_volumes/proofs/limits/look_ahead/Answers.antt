@@ -3,8 +3,9 @@ use Rattle.std.proofs.lemmas.Int.{ints}
 use Rattle.std.proofs.lemmas.Option.{unwrap_or-slice_get}
 use Rattle.tick_sets.specs.Inequalities.{IsLook}
 use Rattle.site_params.specs.Ranges.{IsSet}
+use Rattle.site_params.specs.Looks.{look_of}
 use Rattle.site_params.specs.declared.site.Set.{Set}
-use Rattle.airspace_volumes.specs.Apw.{look_of}
+use Rattle.site_params.specs.declared.site.TheConstants.{APW}
 use Rattle.airspace_volumes.proofs.Fits.{as_is}
 use Rattle.airspace_volumes.proofs.limits.look_ahead.Goals as goal
 
@@ -22,7 +23,7 @@ kept set some is_set =
     let high = inside.high in
     as_is (slice_index_or set.look 2 (pos 0)) (omega (arith, ints))
 
-look_is : (set : Set) → 2 < length set.look → IsSet set → slice_index_or set.look 2 (pos 0) ≡ pos (look_of set)
+look_is : (set : Set) → 2 < length set.look → IsSet set → slice_index_or set.look 2 (pos 0) ≡ pos (look_of APW set)
 look_is set some is_set = let low = (look_in set some is_set).low in rw (unwrap_or-slice_get set.look 2 (pos 0)) (omega (arith, ints))
 
 pub returns-clause-look : goal.returns-clause-look

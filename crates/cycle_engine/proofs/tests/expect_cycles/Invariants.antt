@@ -3,4 +3,4 @@ use Rattle.std.proofs.Common.{◌≡◌}
 use Rattle.cycle_engine.proofs.tests.expect_cycles.Given as goal
 
 abbrev pub invariant-loop-cycle : goal.invariant-loop-cycle
-invariant-loop-cycle g l = l.engine.site ≡ l.initial.engine.site
+invariant-loop-cycle g l = l.engine.setting ≡ l.initial.engine.setting

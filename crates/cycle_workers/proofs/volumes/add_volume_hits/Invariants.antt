@@ -1,11 +1,11 @@
 -- the hits so far and those of the rows that are left are the hits of all
 use Rattle.std.proofs.Common.{◌≡◌, ◌++◌, drop}
 use Rattle.alert_states.specs.Figures.{AreInRoom}
-use Rattle.cycle_workers.specs.Hits.{apw_hits}
+use Rattle.cycle_workers.specs.Hits.{apw_hit_by, hits_by}
 use Rattle.cycle_workers.proofs.volumes.add_volume_hits.Given as goal
 
 abbrev pub invariant-loop-m : goal.invariant-loop-m
 invariant-loop-m l = record {
-  found : l.hits.items ++ apw_hits l.site l.time (drop l.m-index l.movers) ≡ l.fn.hits.items ++ apw_hits l.site l.time l.movers;
+  found : l.hits.items ++ hits_by l.site (apw_hit_by l.time) l.areas (drop l.m-index l.movers) ≡ l.fn.hits.items ++ hits_by l.site (apw_hit_by l.time) l.areas l.movers;
   room : AreInRoom l.hits.items;
 }

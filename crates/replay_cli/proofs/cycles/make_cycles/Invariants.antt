@@ -1,12 +1,13 @@
 -- the first cycles were made, and no write failed
 use Rattle.std.proofs.Common.{◌≡◌, ◌-◌}
+use Rattle.cycle_workers.specs.Settings.{setting}
 use Rattle.replay_cli.specs.Reference.{cycles}
 use Rattle.replay_cli.proofs.Making.{AreMade}
 use Rattle.replay_cli.proofs.cycles.make_cycles.Given as goal
 
 abbrev pub invariant-loop-engine : goal.invariant-loop-engine
 invariant-loop-engine g l = record {
-  made : AreMade l.site l.inputs l.engine.next l.cursors.items l.table l.engine l.made (g.K.Sink.taken l.fn.out) (g.K.Sink.taken l.out) l.fn.steps l.steps;
+  made : AreMade (setting l.site l.terrain) l.inputs l.engine.next l.cursors.items l.table l.engine l.made (g.K.Sink.taken l.fn.out) (g.K.Sink.taken l.out) l.fn.steps l.steps;
   quiet : g.K.Sink.faults l.out ≡ g.K.Sink.faults l.fn.out;
 }
 

@@ -1,4 +1,5 @@
 use Rattle.std.proofs.Common.{◌∙◌, ap, ap₂, rules}
+use Rattle.cycle_workers.specs.Settings.{setting}
 use Rattle.replay_cli.specs.Counts.{report_by}
 use Rattle.replay_cli.specs.Reference.{alerts}
 use Rattle.replay_cli.specs.ReportText.{text_of}
@@ -13,10 +14,10 @@ returns-clause-work g c = record {
 
 pub returns-in_err-counts-clause-prefix : goal.returns-in_err-counts-clause-prefix
 returns-in_err-counts-clause-prefix g c =
-    let front = whole_is_prefix (g.K.Sink.taken c.args.out.now) (g.K.Sink.taken c.make_cycles.new.out) (alerts c.args.site.now c.args.inputs.now) c.in_ok-made.ensures.alerts in
+    let front = whole_is_prefix (g.K.Sink.taken c.args.out.now) (g.K.Sink.taken c.make_cycles.new.out) (alerts (setting c.args.site.now c.args.terrain.now) c.args.inputs.now) c.in_ok-made.ensures.alerts in
     search rules
 
 pub returns-in_err-report-clause-prefix : goal.returns-in_err-report-clause-prefix
 returns-in_err-report-clause-prefix g c =
-    let front = whole_is_prefix (g.K.Sink.taken c.args.out.now) (g.K.Sink.taken c.make_cycles.new.out) (alerts c.args.site.now c.args.inputs.now) c.in_ok-made.ensures.alerts in
+    let front = whole_is_prefix (g.K.Sink.taken c.args.out.now) (g.K.Sink.taken c.make_cycles.new.out) (alerts (setting c.args.site.now c.args.terrain.now) c.args.inputs.now) c.in_ok-made.ensures.alerts in
     search rules

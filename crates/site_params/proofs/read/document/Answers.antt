@@ -3,7 +3,7 @@ use Rattle.std.specs.Str.{is_utf8, IsUtf8}
 use Rattle.std.proofs.lemmas.Str.{IsUtf8-from_is_utf8, is_utf8-from_IsUtf8}
 use Rattle.std.proofs.lemmas.Bool.{false≢true}
 use Rattle.toml.specs.Parse.{parse_document}
-use Rattle.site_params.specs.declared.fault.SiteFault.TheVariants.{Syntax}
+use Rattle.site_fields.specs.declared.fault.SiteFault.TheVariants.{Syntax}
 use Rattle.site_params.specs.Site.{document}
 use Rattle.site_params.proofs.read.document.Goals as goal
 

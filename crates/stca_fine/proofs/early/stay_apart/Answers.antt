@@ -26,7 +26,7 @@ returns-then-stays_beyond-2 c = λ test.
             limit_is c.greater_h-h.result c.greater_h-h.ensures.limit,
             to_z-of_z w64 c.look_ahead-look.result fits,
           ) at (c.stays_beyond.ensures (sym w.value-is ∙ c.if-stays_beyond-2.true)) in
-          apart_x c.args.a.now c.args.b.now c.args.set.now c.greater_h-h.result c.look_ahead-look.result c.requires.set c.look_ahead-look.ensures.look c.greater_h-h.ensures.h c.greater_h-h.ensures.now_h beyond)
+          apart_x c.searches_find_the_first.ensures.only c.args.a.now c.args.b.now c.args.set.now c.greater_h-h.result c.look_ahead-look.result c.requires.set c.look_ahead-look.ensures.look c.greater_h-h.ensures.h c.greater_h-h.ensures.now_h beyond)
       | else-stays_beyond w ↦
           (let beyond = rw (
             difference_is c.args.b.now.y c.args.a.now.y second.y first.y,
@@ -34,7 +34,7 @@ returns-then-stays_beyond-2 c = λ test.
             limit_is c.greater_h-h.result c.greater_h-h.ensures.limit,
             to_z-of_z w64 c.look_ahead-look.result fits,
           ) at (w.stays_beyond-else-stays_beyond.ensures (sym w.value-is ∙ c.if-stays_beyond-2.true)) in
-          apart_y c.args.a.now c.args.b.now c.args.set.now c.greater_h-h.result c.look_ahead-look.result c.requires.set c.look_ahead-look.ensures.look c.greater_h-h.ensures.h c.greater_h-h.ensures.now_h beyond)
+          apart_y c.searches_find_the_first.ensures.only c.args.a.now c.args.b.now c.args.set.now c.greater_h-h.result c.look_ahead-look.result c.requires.set c.look_ahead-look.ensures.look c.greater_h-h.ensures.h c.greater_h-h.ensures.now_h beyond)
     ]
 
 pub returns-else-stays_beyond-2 : goal.returns-else-stays_beyond-2
@@ -48,4 +48,4 @@ returns-else-stays_beyond-2 c = λ test.
       limit_is c.greater_v.result c.greater_v.ensures.limit,
       to_z-of_z w64 c.look_ahead-look.result fits,
     ) at (c.stays_beyond-else-stays_beyond-2.ensures test) in
-    apart_z c.args.a.now c.args.b.now c.args.set.now c.greater_v.result c.look_ahead-look.result c.look_ahead-look.ensures.look c.greater_v.ensures.v c.greater_v.ensures.now_v beyond
+    apart_z c.searches_find_the_first.ensures.only c.args.a.now c.args.b.now c.args.set.now c.greater_v.result c.look_ahead-look.result c.look_ahead-look.ensures.look c.greater_v.ensures.v c.greater_v.ensures.now_v beyond

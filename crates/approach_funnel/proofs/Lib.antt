@@ -1,0 +1,12 @@
+pub mod Beyond
+pub mod Captures
+pub mod Fits
+pub mod Flags
+pub mod Moving
+pub mod Outside
+pub mod Products
+pub mod Searches
+pub mod Vectors
+pub mod Where
+pub mod Whole
+pub mod Words

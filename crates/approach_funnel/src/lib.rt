@@ -1,0 +1,17 @@
+//! Approach path monitor (APM) for one track and one approach funnel.
+#![tactic(auto)]
+
+mod approach;
+mod course;
+mod firsts;
+mod hit;
+pub mod laws;
+mod limits;
+mod lines;
+mod units;
+
+pub use approach::Approach;
+pub use hit::{FunnelHit, apm};
+
+#[cfg(test)]
+mod tests;

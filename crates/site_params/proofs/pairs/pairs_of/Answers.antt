@@ -1,5 +1,0 @@
-use Rattle.std.proofs.Common.{rules}
-use Rattle.site_params.proofs.pairs.pairs_of.Goals as goal
-
-pub returns-clause-inside : goal.returns-clause-inside
-returns-clause-inside c = record { count = search rules; each = search rules }

@@ -1,0 +1,11 @@
+pub mod Bands
+pub mod Counts
+pub mod Fits
+pub mod Heights
+pub mod Hits
+pub mod Lines
+pub mod Places
+pub mod Products
+pub mod SameBand
+pub mod Walking
+pub mod Words

@@ -1,0 +1,16 @@
+//! Minimum safe altitude warning (MSAW) for one track over a terrain.
+#![tactic(auto)]
+
+mod arithmetic;
+mod axis;
+mod ground;
+mod height;
+mod hit;
+pub mod laws;
+mod limits;
+
+pub use ground::Ground;
+pub use hit::msaw;
+
+#[cfg(test)]
+mod tests;
