@@ -20,6 +20,9 @@ round where it comes to the edge of its square or of its levels.
 `volumes` gives the text of airspace volumes over the square of so many tracks of `cycling`: polygons of 20 points round a
 middle, 2 to 15 km from it, with floors and ceilings within the levels that the tracks fly on.
 
+`low` gives the traffic of `cycling` on 1,000 to 17,000 ft, and `terrain` the octets of a terrain file under it: low ground, and
+in one cell of 1,000 a peak above all tracks.
+
 All times of the others are from the site's start to just before the end of its first cycle.
 """
 
@@ -152,9 +155,9 @@ def turned(track, cycle, reach):
     return moved
 
 
-def cycling(count, cycles):
-    """The feed's bytes: so many tracks, each told once in each of so many cycles, up to 31 m beside its place. None is
-    tentative."""
+def told_each_cycle(count, cycles, lower):
+    """The feed's bytes: so many tracks, each told once in each of so many cycles, up to 31 m beside its place, and so many
+    times 25 ft lower. None is tentative."""
     draws = Draws()
     numbers = shuffled_numbers(draws, count)
     tracks = cruising_tracks(draws, count)
@@ -164,9 +167,20 @@ def cycling(count, cycles):
         for i, track in enumerate(tracks):
             seen = turned(track, cycle, reach)
             seen["x"] += draws.below(64)
+            seen["level"] -= lower
             time = START + cycle * PERIOD + i * PERIOD // count
             records.append(bytes(block(seen, numbers[i], time, False)[3:]))
     return in_blocks(records)
+
+
+def cycling(count, cycles):
+    """En route, on flight levels 240 to 400."""
+    return told_each_cycle(count, cycles, 0)
+
+
+def low(count, cycles):
+    """The same on 1,000 to 17,000 ft."""
+    return told_each_cycle(count, cycles, 920)
 
 
 # Twenty directions round a place, in thousandths.
@@ -189,6 +203,17 @@ def volumes(count, tracks):
         tables.append(f'\n[[volume]]\nname = "V{i}"\nfloor = {floor}\nceiling = {floor + 25 * draws.between(40, 200)}\n'
                       f"points = [{points}]\n")
     return "".join(tables)
+
+
+def terrain(cells, tracks):
+    """A terrain file of so many columns and rows over the square of so many tracks: ground up to 900 ft, and in one cell of
+    1,000 a peak of 20,000 ft."""
+    draws = Draws()
+    side = max(100, reach_of(tracks) // cells)
+    corner = (-(side * cells) // 2).to_bytes(4, "big", signed=True)
+    values = (800 if draws.below(1_000) == 0 else draws.below(37) for _ in range(cells * cells))
+    counts = 2 * cells.to_bytes(2, "big")
+    return b"TER1" + 2 * corner + side.to_bytes(4, "big") + counts + b"".join(value.to_bytes(2, "big") for value in values)
 
 
 # What `mixed` makes its records of: the octets of the fixed items, the size of a part of the extended ones,

@@ -1,7 +1,7 @@
 //! The yardstick of the bench: what the proved program does, on the same words, in plain Rust with the
 //! standard library alone. It was written from the definitions and shares no code with the crates.
 //!
-//! Exit statuses: 0 done, 2 other words than `replay --site SITE FEED...` with one feed to eight, 4 a feed that can't
+//! Exit statuses: 0 done, 2 other words than `replay --site SITE FEED...` with one feed to eight, 4 a file that can't
 //! be opened or read, 5 a write that failed, 7 done, and part of a feed was refused or cut off.
 
 use std::cmp::Reverse;
@@ -134,6 +134,7 @@ struct Record {
     rate: i16,
     flight_level: Option<i16>,
     barometric: Option<i16>,
+    is_corrected: bool,
     code: Option<u16>,
     tentative: bool,
     simulated: bool,
@@ -148,6 +149,7 @@ struct Track {
     /// It has a level, and nothing but its age can leave it out.
     is_eligible: bool,
     level: i16,
+    altitude: i16,
     rate: i16,
     x: i32,
     y: i32,
@@ -189,6 +191,7 @@ struct Mover {
     vx: i64,
     vy: i64,
     z: i64,
+    altitude: i64,
     vz: i64,
 }
 
@@ -196,10 +199,12 @@ struct Mover {
 #[derive(Clone, Copy, PartialEq, Eq, PartialOrd, Ord)]
 enum Net {
     Stca,
+    Msaw,
     Apw,
+    Apm,
 }
 
-/// Whom an alert is of: a net, a track, and the second track or the number of the volume.
+/// Whom an alert is of: a net, a track, and the second track or the number of the volume or the funnel.
 type Subject = (Net, Key, Key, u16);
 
 /// An airspace volume: its levels, its points, and how far they lie along each axis.
@@ -209,6 +214,41 @@ struct Volume {
     points: Vec<(i64, i64)>,
     x: (i64, i64),
     y: (i64, i64),
+}
+
+/// A terrain: its lower left corner, the side of its cells, their heights in 25 ft in rows from the lowest up, and the
+/// greatest of them.
+struct Terrain {
+    x0: i64,
+    y0: i64,
+    side: i64,
+    columns: i64,
+    rows: i64,
+    heights: Vec<i16>,
+    highest: i64,
+}
+
+/// An approach funnel: the threshold, the landing direction and its length rounded down, and the figures of the site file.
+struct Funnel {
+    x: i64,
+    y: i64,
+    dx: i64,
+    dy: i64,
+    length: i64,
+    elevation: i64,
+    reach: i64,
+    ceiling: i64,
+    capture: (i64, i64),
+    sides: (i64, i64),
+    low: (i64, i64),
+    high: (i64, i64),
+}
+
+/// What the site file and the terrain file say besides the constants.
+struct Scene {
+    volumes: Vec<Volume>,
+    funnels: Vec<Funnel>,
+    terrain: Option<Terrain>,
 }
 
 /// Ticks from the one to the other.
@@ -240,6 +280,8 @@ struct Hit {
     subject: Subject,
     first: i64,
     is_urgent: bool,
+    /// The deviations of a hit by a funnel.
+    deviations: u8,
     pair: Option<PairFigures>,
 }
 
@@ -352,6 +394,7 @@ impl Record {
             19 => {
                 let correction = if item[0] & 0x80 != 0 { QNH } else { 0 };
                 self.barometric = Some(((word(item) << 1) as i16 >> 1) - correction);
+                self.is_corrected = item[0] & 0x80 != 0;
             }
             20 => self.rate = word(item) as i16,
             _ => {}
@@ -374,6 +417,7 @@ impl Record {
             feed,
             is_eligible: level.is_some() && !(self.ended || self.tentative || self.simulated || left_out),
             level: level.unwrap_or_default(),
+            altitude: self.barometric.filter(|_| self.is_corrected).or(level).unwrap_or_default() + QNH,
             rate: self.rate,
             x,
             y,
@@ -403,6 +447,7 @@ impl Track {
             vx,
             vy,
             z: i64::from(self.level) * FEET_25 + vz * age,
+            altitude: i64::from(self.altitude) * FEET_25 + vz * age,
             vz,
         })
     }
@@ -610,7 +655,7 @@ fn examine(a: &Mover, b: &Mover) -> Option<Hit> {
         is_current,
     };
     let is_urgent = is_current || first <= URGENT;
-    Some(Hit { subject: (Net::Stca, a.key, b.key, 0), first, is_urgent, pair: Some(figures) })
+    Some(Hit { subject: (Net::Stca, a.key, b.key, 0), first, is_urgent, deviations: 0, pair: Some(figures) })
 }
 
 /// The ticks of the look-ahead at which a line isn't below 0.
@@ -687,21 +732,134 @@ impl Volume {
     }
 }
 
-/// The hits of all pairs and then those of all tracks by all volumes, in key order.
-fn hits(movers: &[Mover], volumes: &[Volume]) -> Vec<Hit> {
+impl Terrain {
+    /// The height of the cell over which the track is at a tick, if it has one.
+    fn height(&self, mover: &Mover, tick: i64) -> Option<i64> {
+        let (x, y) = (mover.x + mover.vx * tick - self.x0, mover.y + mover.vy * tick - self.y0);
+        let (column, row) = (x.div_euclid(self.side), y.div_euclid(self.side));
+        if !(0..self.columns).contains(&column) || !(0..self.rows).contains(&row) {
+            return None;
+        }
+        Some(self.heights[(row * self.columns + column) as usize]).filter(|height| *height != i16::MIN).map(i64::from)
+    }
+
+    /// The first tick after this one at which a place along an axis is in another cell, or past the terrain's ends.
+    fn next_cell(&self, place: i64, speed: i64, tick: i64, count: i64) -> i64 {
+        let now = place + speed * tick;
+        let (low, high) = match now.div_euclid(self.side) {
+            before if before < 0 => (i64::MIN / 2, 0),
+            behind if behind >= count => (count * self.side, i64::MAX / 2),
+            cell => (cell * self.side, (cell + 1) * self.side),
+        };
+        match speed {
+            0 => i64::MAX,
+            1.. => tick + (high - now - 1) / speed + 1,
+            _ => tick + (now - low) / -speed + 1,
+        }
+    }
+
+    /// The first tick at which the track is below a cell's height.
+    fn first_below(&self, mover: &Mover) -> Option<i64> {
+        if mover.altitude.min(mover.altitude + mover.vz * LOOK_AHEAD) >= self.highest * FEET_25 {
+            return None;
+        }
+        let mut tick = 0;
+        while tick <= LOOK_AHEAD {
+            let next = self.next_cell(mover.x - self.x0, mover.vx, tick, self.columns)
+                .min(self.next_cell(mover.y - self.y0, mover.vy, tick, self.rows));
+            if let Some(height) = self.height(mover, tick) {
+                let above = mover.altitude + mover.vz * tick - height * FEET_25;
+                let first = match mover.vz {
+                    _ if above < 0 => tick,
+                    ..=-1 => tick + above / -mover.vz + 1,
+                    _ => i64::MAX,
+                };
+                if first < next && first <= LOOK_AHEAD {
+                    return Some(first);
+                }
+            }
+            tick = next;
+        }
+        None
+    }
+}
+
+impl Funnel {
+    /// How far the track is before the threshold along the landing direction, and how far right of the centre line, at a
+    /// tick: both times the direction's length.
+    fn place(&self, mover: &Mover, tick: i64) -> (i128, i128) {
+        let (x, y) = (mover.x + mover.vx * tick - self.x, mover.y + mover.vy * tick - self.y);
+        (i128::from(-(x * self.dx + y * self.dy)), i128::from(x * self.dy - y * self.dx))
+    }
+
+    fn is_captured(&self, mover: &Mover) -> bool {
+        let (before, right) = self.place(mover, 0);
+        let length = i128::from(self.length);
+        let (half, side) = (i128::from(self.capture.0), i128::from(self.capture.1));
+        mover.vx * self.dx + mover.vy * self.dy > 0
+            && 0 < before
+            && before <= 512 * i128::from(self.reach) * length
+            && 10_000 * right.abs() <= 5_120_000 * length * half + side * before
+            && mover.altitude <= self.ceiling
+    }
+
+    /// The deviations at a tick, by which each is more than 0 where it holds. All four are lines over ticks.
+    fn deviations(&self, mover: &Mover, tick: i64) -> [i128; 4] {
+        let (before, right) = self.place(mover, tick);
+        let length = i128::from(self.length);
+        let altitude = i128::from(5 * (mover.altitude + mover.vz * tick));
+        let above = |base: i64| 2_500 * length * (altitude - 6_144 * i128::from(self.elevation + base));
+        let width = 5_120_000 * length * i128::from(self.sides.0) + i128::from(self.sides.1) * before;
+        [
+            3 * i128::from(self.low.1) * before - above(self.low.0),
+            above(self.high.0) - 3 * i128::from(self.high.1) * before,
+            -10_000 * right - width,
+            10_000 * right - width,
+        ]
+    }
+
+    /// The first tick with a deviation before the threshold, and which they are.
+    fn hit(&self, mover: &Mover) -> Option<(i64, u8)> {
+        if !self.is_captured(mover) {
+            return None;
+        }
+        let (start, next) = (self.deviations(mover, 0), self.deviations(mover, 1));
+        let (before, then) = (self.place(mover, 0).0, self.place(mover, 1).0);
+        let ahead = ticks_from_zero(then - before, before - 1);
+        let firsts = (0..4).filter_map(|i| both(ahead, ticks_from_zero(next[i] - start[i], start[i] - 1)));
+        let first = firsts.map(|ticks| ticks.0).min()?;
+        let flags = self.deviations(mover, first).into_iter().zip([0x04, 0x08, 0x10, 0x20]);
+        Some((first, flags.filter(|(by, _)| *by > 0).map(|(_, flag)| flag).sum()))
+    }
+}
+
+fn single(net: Net, key: Key, object: u16, first: i64, deviations: u8) -> Hit {
+    Hit { subject: (net, key, 0, object), first, is_urgent: first <= URGENT, deviations, pair: None }
+}
+
+/// The hits of all pairs, then those of all tracks by the terrain, by all volumes and by all funnels, in key order.
+fn hits(movers: &[Mover], scene: &Scene) -> Vec<Hit> {
     let mut hits = Vec::new();
     for (i, a) in movers.iter().enumerate() {
         let near = movers[i + 1..].iter().filter(|b| !stay_apart(a, b));
         hits.extend(near.filter_map(|b| examine(a, b)));
     }
+    if let Some(terrain) = &scene.terrain {
+        for mover in movers {
+            let first = terrain.first_below(mover);
+            hits.extend(first.map(|first| single(Net::Msaw, mover.key, 0, first, 0)));
+        }
+    }
     for mover in movers {
-        for (volume, number) in volumes.iter().zip(0..) {
-            if volume.is_passed_by(mover) {
-                continue;
-            }
-            if let Some(first) = volume.first_inside(mover) {
-                hits.push(Hit { subject: (Net::Apw, mover.key, 0, number), first, is_urgent: first <= URGENT, pair: None });
-            }
+        for (volume, number) in scene.volumes.iter().zip(0..).filter(|(volume, _)| !volume.is_passed_by(mover)) {
+            let first = volume.first_inside(mover);
+            hits.extend(first.map(|first| single(Net::Apw, mover.key, number, first, 0)));
+        }
+    }
+    for mover in movers {
+        for (funnel, number) in scene.funnels.iter().zip(0..) {
+            let hit = funnel.hit(mover);
+            hits.extend(hit.map(|(first, deviations)| single(Net::Apm, mover.key, number, first, deviations)));
         }
     }
     hits
@@ -710,7 +868,7 @@ fn hits(movers: &[Mover], volumes: &[Volume]) -> Vec<Hit> {
 impl Net {
     fn confirm(self) -> Confirm {
         match self {
-            Net::Stca => Confirm { hits: 2, cycles: 3, held: 2 },
+            Net::Stca | Net::Msaw | Net::Apm => Confirm { hits: 2, cycles: 3, held: 2 },
             Net::Apw => Confirm { hits: 1, cycles: 1, held: 1 },
         }
     }
@@ -718,7 +876,9 @@ impl Net {
     fn message_type(self) -> u8 {
         match self {
             Net::Stca => 7,
+            Net::Msaw => 4,
             Net::Apw => 5,
+            Net::Apm => 8,
         }
     }
 }
@@ -791,7 +951,7 @@ fn message(status: Status, number: u16, subject: Subject, hit: Option<&Hit>, tim
         bytes.extend(second);
     }
     let is_current = hit.is_some_and(|hit| hit.pair.as_ref().is_some_and(|pair| pair.is_current));
-    let flags = hit.map_or(0, |hit| u8::from(hit.is_urgent) | u8::from(is_current) << 1);
+    let flags = hit.map_or(0, |hit| u8::from(hit.is_urgent) | u8::from(is_current) << 1 | hit.deviations);
     let [high, low] = if net == Net::Stca { [second_sac, second_sic] } else { object.to_be_bytes() };
     bytes.extend([7, net.message_type(), sac, sic, high, low, flags]);
     bytes
@@ -816,30 +976,82 @@ fn numbers(line: &str) -> Vec<i64> {
     parts.filter_map(|part| part.parse().ok()).collect()
 }
 
-/// The volumes of a site file as bench/run writes it: the floor, the ceiling and the points of each in a line of their
-/// own, in this order.
-fn volumes_of(site: &str) -> Vec<Volume> {
-    let (_, volumes) = site.split_once("[[volume]]").unwrap_or_default();
-    let value = |text: &str, key: &str| {
-        let line = text.lines().find(|line| line.starts_with(key)).unwrap_or_default();
-        numbers(line)
-    };
-    let volume = |text: &str| {
-        let (floor, ceiling, points) = (value(text, "floor"), value(text, "ceiling"), value(text, "points"));
-        let points = points.chunks_exact(2).map(|point| (point[0] * METRE, point[1] * METRE)).collect();
-        Volume::new(floor[0] / 25 * FEET_25, ceiling[0] / 25 * FEET_25, points)
-    };
-    volumes.split("[[volume]]").filter(|text| !text.is_empty()).map(volume).collect()
+/// The tables of this name, and the numbers of each line of one by its key.
+fn tables<'a>(site: &'a str, name: &str) -> Vec<HashMap<&'a str, Vec<i64>>> {
+    let mut found = Vec::new();
+    let mut is_within = false;
+    for line in site.lines() {
+        if line.starts_with('[') {
+            is_within = line == format!("[[{name}]]");
+            if is_within {
+                found.push(HashMap::new());
+            }
+        } else if let (true, Some((key, value)), Some(table)) = (is_within, line.split_once(" = "), found.last_mut()) {
+            table.insert(key, numbers(value));
+        }
+    }
+    found
+}
+
+impl Scene {
+    /// What a site file says whose tables have each value in a line of its own.
+    fn read(site: &str) -> Option<Self> {
+        let height = |feet: i64| feet / 25 * FEET_25;
+        let volumes = tables(site, "volume").into_iter().map(|table| {
+            let points = table["points"].chunks_exact(2).map(|point| (point[0] * METRE, point[1] * METRE)).collect();
+            Volume::new(height(table["floor"][0]), height(table["ceiling"][0]), points)
+        });
+        let funnels = tables(site, "funnel").into_iter().map(|table| {
+            let of = |key: &str| table[key][0];
+            Funnel {
+                x: of("x") * METRE,
+                y: of("y") * METRE,
+                dx: of("dx"),
+                dy: of("dy"),
+                length: (of("dx").pow(2) + of("dy").pow(2)).isqrt(),
+                elevation: of("elevation"),
+                reach: of("reach"),
+                ceiling: height(of("ceiling")),
+                capture: (of("capture_half"), of("capture_side")),
+                sides: (of("half"), of("side")),
+                low: (of("low_base"), of("low_rise")),
+                high: (of("high_base"), of("high_rise")),
+            }
+        });
+        let name = site.lines().find_map(|line| line.strip_prefix("terrain = "));
+        let terrain = match name {
+            Some(name) => Some(Terrain::read(&std::fs::read(name.trim_matches('"')).ok()?)),
+            None => None,
+        };
+        Some(Scene { volumes: volumes.collect(), funnels: funnels.collect(), terrain })
+    }
+}
+
+impl Terrain {
+    /// The terrain of a file that is one.
+    fn read(octets: &[u8]) -> Self {
+        let long = |at: usize| i64::from(i32::from_be_bytes(octets[at..at + 4].try_into().unwrap()));
+        let heights: Vec<_> = octets[20..].chunks_exact(2).map(|value| word(value) as i16).collect();
+        Self {
+            x0: long(4) * METRE,
+            y0: long(8) * METRE,
+            side: long(12) * METRE,
+            columns: i64::from(word(&octets[16..])),
+            rows: i64::from(word(&octets[18..])),
+            highest: heights.iter().copied().max().map_or(0, i64::from),
+            heights,
+        }
+    }
 }
 
 /// Ok with the status of a run whose work is done, else the status that ends it.
 fn replay(words: &[String]) -> Result<u8, u8> {
-    // The site's values are constants above, those of examples/site-a.toml, but for its volumes.
+    // The site's values are constants above, those of examples/site-a.toml, but for its volumes, its funnels and its terrain.
     let [command, option, site, names @ ..] = words else { return Err(2) };
     if command != "replay" || option != "--site" || names.is_empty() || names.len() > MOST_FEEDS {
         return Err(2);
     }
-    let volumes = volumes_of(&std::fs::read_to_string(site).map_err(|_| 4)?);
+    let scene = Scene::read(&std::fs::read_to_string(site).map_err(|_| 4)?).ok_or(4)?;
     let feeds = names.iter().map(std::fs::read).collect::<Result<Vec<_>, _>>().map_err(|_| 4)?;
     let mut cursors = (0..).zip(&feeds).map(|(feed, octets)| Cursor::new(feed, octets)).collect::<Vec<_>>();
     let (mut table, mut book) = (Table::new(), Book::default());
@@ -850,7 +1062,7 @@ fn replay(words: &[String]) -> Result<u8, u8> {
         }
         let time = START + (cycle + 1) * PERIOD;
         put_due(&mut table, &mut cursors, cycle);
-        let hits = hits(&movers(&mut table, time), &volumes);
+        let hits = hits(&movers(&mut table, time), &scene);
         let blocks = book.cycle(&hits, time);
         out.write_all(&blocks.bytes).and_then(|()| out.flush()).map_err(|_| 5)?;
     }
