@@ -4,7 +4,7 @@
 pub const TICKS_PER_DAY: u32 = 11_059_200;
 
 /// What names a track: the system that keeps it, and its number there. Keys are ordered by these fields.
-#[derive(Clone, Copy, Debug, PartialEq, Eq, PartialOrd, Ord)]
+#[derive(Clone, Copy, Debug, PartialEq, Eq, PartialOrd, Ord, Hash)]
 pub struct TrackKey {
     /// System area code.
     pub sac: u8,

@@ -2,6 +2,7 @@ mod Feeds
 mod Filters
 mod Freezes
 mod Highest
+mod KeyOrder
 mod Newest
 mod Orders
 mod Proper

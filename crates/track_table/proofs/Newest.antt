@@ -1,5 +1,5 @@
 -- Of each track the highest record, in key order: what is found at a key, and that the keys rise.
-use Rattle.std.proofs.Common.{◌≡◌, Bool, true, false, cond, ◌||◌, ◌&&◌, List, [], ◌∷◌, Option, Some, None, T, refl, ap, sym, ◌∙◌}
+use Rattle.std.proofs.Common.{◌≡◌, Bool, true, false, cond, ◌||◌, ◌&&◌, List, [], ◌∷◌, Option, Some, None, T, refl, ap, sym, subst, ◌∙◌}
 use Rattle.std.specs.Prelude.{filter, fold}
 use Rattle.std.specs.List.{AllByRecursion, cons_option, filter_map, list_any}
 use Rattle.std.specs.List.Sorted.{IsStrictlySortedBy}
@@ -25,7 +25,7 @@ use Rattle.track_table.proofs.Orders.{key_equal, key_total}
 abbrev pub found : TrackKey → List (TrackKey × Stamped) → Option Stamped
 found q es = lookup (is_at (key_cmp q)) es
 
-equal_from : (o : Ordering) → is_eq o ≡ true → o ≡ Equal
+pub equal_from : (o : Ordering) → is_eq o ≡ true → o ≡ Equal
 equal_from Less e = absurd (cc)
 equal_from Equal e = refl
 equal_from Greater e = absurd (cc)
@@ -142,7 +142,7 @@ rise_insert_at k x xs more Less at up rest above = ((at, above_lower k x xs at u
 rise_insert_at k x xs more Equal at up rest above = up
 rise_insert_at k x xs more Greater at up rest above = (above (key_total.antisymm x k ∙ ap ordering_reverse at), rest)
 
-rise_insert : (k : TrackKey) (keys : List TrackKey) → IsStrictlySortedBy key_cmp keys → IsStrictlySortedBy key_cmp (insert_key key_cmp keys k)
+pub rise_insert : (k : TrackKey) (keys : List TrackKey) → IsStrictlySortedBy key_cmp keys → IsStrictlySortedBy key_cmp (insert_key key_cmp keys k)
 unfolding IsStrictlySortedBy
 rise_insert k [] up = (tt, tt)
 rise_insert k (x ∷ xs) up =
@@ -152,7 +152,7 @@ rise_keys : (keys : List TrackKey) (records : List Stamped) → IsStrictlySorted
 rise_keys keys [] up = up
 rise_keys keys (r ∷ rs) up = rise_keys (with_key keys r) rs (rise_insert r.track.key keys up)
 
-none_rise : IsStrictlySortedBy key_cmp []
+pub none_rise : IsStrictlySortedBy key_cmp []
 unfolding IsStrictlySortedBy
 none_rise = tt
 
@@ -179,25 +179,27 @@ rise_entries f tells (k ∷ ks) up = rise_entries_at f tells k (filter_map f ks)
 pub rise_newest : (records : List Stamped) → IsStrictlySortedBy key_cmp (keys_in (entries_of (newest records)))
 rise_newest records = rise_entries (highest_at records) (highest_tells records) (keys_of records) (rise_keys [] records none_rise)
 
-above_filter_at : (p : Stamped → Bool) (y : TrackKey) (x : Stamped) (xs : List Stamped) (b : Bool) → key_cmp y x.track.key ≡ Less → AreAbove y (keys_in (entries_of xs)) →
-    AreAbove y (keys_in (entries_of (cond b (x ∷ xs) xs)))
-above_filter_at p y x xs true below all = (below, all)
-above_filter_at p y x xs false below all = all
+above_kept_at : (y : TrackKey) (e : TrackKey × Stamped) (es : List (TrackKey × Stamped)) (b : Bool) → key_cmp y e.0 ≡ Less → AreAbove y (keys_in es) → AreAbove y (keys_in (cond b (e ∷ es) es))
+above_kept_at y e es true below all = (below, all)
+above_kept_at y e es false below all = all
 
-above_filter : (p : Stamped → Bool) (y : TrackKey) (xs : List Stamped) → AreAbove y (keys_in (entries_of xs)) → AreAbove y (keys_in (entries_of (filter p xs)))
-above_filter p y [] all = tt
-above_filter p y (x ∷ xs) all = above_filter_at p y x (filter p xs) (p x) all.0 (above_filter p y xs all.1)
+above_kept : (p : TrackKey × Stamped → Bool) (y : TrackKey) (es : List (TrackKey × Stamped)) → AreAbove y (keys_in es) → AreAbove y (keys_in (filter p es))
+above_kept p y [] all = tt
+above_kept p y (e ∷ es) all = above_kept_at y e (filter p es) (p e) all.0 (above_kept p y es all.1)
 
-rise_filter_at : (x : Stamped) (xs : List Stamped) (b : Bool) → AreAbove x.track.key (keys_in (entries_of xs)) → IsStrictlySortedBy key_cmp (keys_in (entries_of xs)) →
-    IsStrictlySortedBy key_cmp (keys_in (entries_of (cond b (x ∷ xs) xs)))
+rise_kept_at : (e : TrackKey × Stamped) (es : List (TrackKey × Stamped)) (b : Bool) → AreAbove e.0 (keys_in es) → IsStrictlySortedBy key_cmp (keys_in es) → IsStrictlySortedBy key_cmp (keys_in (cond b (e ∷ es) es))
 unfolding IsStrictlySortedBy
-rise_filter_at x xs true above up = (above, up)
-rise_filter_at x xs false above up = up
+rise_kept_at e es true above up = (above, up)
+rise_kept_at e es false above up = up
+
+-- so do those of the entries that pass a test
+pub rise_kept : (p : TrackKey × Stamped → Bool) (es : List (TrackKey × Stamped)) → IsStrictlySortedBy key_cmp (keys_in es) → IsStrictlySortedBy key_cmp (keys_in (filter p es))
+unfolding IsStrictlySortedBy
+rise_kept p [] up = tt
+rise_kept p (e ∷ es) up = rise_kept_at e (filter p es) (p e) (above_kept p e.0 es up.0) (rise_kept p es up.1)
 
 pub rise_filter : (p : Stamped → Bool) (xs : List Stamped) → IsStrictlySortedBy key_cmp (keys_in (entries_of xs)) → IsStrictlySortedBy key_cmp (keys_in (entries_of (filter p xs)))
-unfolding IsStrictlySortedBy
-rise_filter p [] up = tt
-rise_filter p (x ∷ xs) up = rise_filter_at x (filter p xs) (p x) (above_filter p x.track.key xs up.0) (rise_filter p xs up.1)
+rise_filter p xs up = subst (λ (es : List (TrackKey × Stamped)). IsStrictlySortedBy key_cmp (keys_in es)) (entries-filter p xs) (rise_kept (λ e. p e.1) (entries_of xs) up)
 
 -- ---- entries whose keys rise are known by what is found in them
 

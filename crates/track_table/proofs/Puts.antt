@@ -2,7 +2,7 @@
 use Rattle.std.proofs.Common.{◌≡◌, Bool, true, false, cond, not, ◌&&◌, List, [], ◌∷◌, ◌++◌, Option, Some, None, ℤ, refl, ap, sym, ◌∙◌}
 use Rattle.std.specs.Prelude.{filter}
 use Rattle.std.specs.List.Sorted.{IsStrictlySortedBy}
-use Rattle.std.specs.Cmp.{eq_by_cmp_equiv}
+use Rattle.std.specs.BTreeMap.{insert_entry}
 use Rattle.std.specs.Map.{keys_of as keys_in}
 use Rattle.std.specs.Ordering.{eq_by_cmp, is_eq}
 use Rattle.std.proofs.lemmas.Bool.{and_parts}
@@ -13,12 +13,15 @@ use Rattle.track_motion.specs.declared.rank.Stamped.{Stamped}
 use Rattle.track_motion.specs.declared.track.TrackKey.{TrackKey}
 use Rattle.track_motion.specs.Keys.{key_cmp}
 use Rattle.track_motion.specs.Ranks.{outranks}
-use Rattle.track_table.specs.Kept.{answer_to, counting, counts, entries_of, superseded_by, unless_outranked}
+use Rattle.track_table.specs.declared.table.Put.{Put}
+use Rattle.track_table.specs.declared.table.Put.TheVariants.{Kept, Superseded}
+use Rattle.track_table.specs.Kept.{answer_to, counting, counts, entries_of, superseded_by, told_of, unless_outranked}
 use Rattle.track_table.specs.Tables.{highest, newest, of_key}
 use Rattle.track_table.proofs.Filters.{option_filter_and}
 use Rattle.track_table.proofs.Highest.{IsUpward, after, highest_filter, highest_none, highest_push}
+use Rattle.track_table.proofs.KeyOrder.{found_insert, rise_entry}
 use Rattle.track_table.proofs.Newest.{entries_known, found, found_filter, rise_filter, rise_newest, same_key}
-use Rattle.track_table.proofs.Orders.{key_total, not_outranks_trans, outranks_one, recent_above}
+use Rattle.track_table.proofs.Orders.{not_outranks_trans, outranks_one, recent_above}
 
 -- what is kept of all records put
 abbrev pub kept_of : ℤ → Option ℤ → List Stamped → List (TrackKey × Stamped)
@@ -138,48 +141,54 @@ inserted_at p s es fs q true at same here = here ∙ sym (ap (λ k. kept_with p 
 inserted_at p s es fs q false at same here = here
 
 -- where the record stands at its key, the entries with it are what is kept
-pub put_inserts : (timeout : ℤ) (frozen : Option ℤ) (puts : List Stamped) (s : Stamped) (es fs : List (TrackKey × Stamped)) → es ≡ kept_of timeout frozen puts → IsStrictlySortedBy key_cmp (keys_in fs) →
-    kept_with (counts timeout frozen) (found s.track.key es) s ≡ Some s → ((q : TrackKey) → found q fs ≡ cond (eq_by_cmp key_cmp s.track.key q) (Some s) (found q es)) →
-    fs ≡ kept_of timeout frozen (puts ++ s ∷ [])
-put_inserts timeout frozen puts s es fs stands up same holds =
-    put_is timeout frozen puts s es fs stands up
-    (λ q. inserted_at (counts timeout frozen) s es fs q (is_eq (key_cmp q s.track.key)) refl same
-    (holds q ∙ ap (λ b. cond b (Some s) (found q es)) ((eq_by_cmp_equiv key_total).symm s.track.key q)))
+pub put_inserts : (timeout : ℤ) (frozen : Option ℤ) (puts : List Stamped) (s : Stamped) (es : List (TrackKey × Stamped)) → es ≡ kept_of timeout frozen puts →
+    kept_with (counts timeout frozen) (found s.track.key es) s ≡ Some s → insert_entry key_cmp es s.track.key s ≡ kept_of timeout frozen (puts ++ s ∷ [])
+put_inserts timeout frozen puts s es stands same =
+    let fs = insert_entry key_cmp es s.track.key s in
+    put_is timeout frozen puts s es fs stands (rise_entry s.track.key s es (rw stands (kept_rise timeout frozen puts)))
+    (λ q. inserted_at (counts timeout frozen) s es fs q (is_eq (key_cmp q s.track.key)) refl same (found_insert q s.track.key s es))
 
 -- ---- the ways of a put
 
-beaten_at : (s k : Stamped) (b : Bool) → outranks s k ≡ b → cond b None (Some k) ≡ None → outranks s k ≡ true
-beaten_at s k true at none = at
-beaten_at s k false at none = absurd (cc)
+-- nothing is kept for the track
+pub missing : (s : Stamped) (o : Option Stamped) → None ≡ told_of s o → o ≡ None
+missing s None is = refl
+missing s (Some k) is = absurd (cc)
 
-superseded_at : (p : Stamped → Bool) (s k r : Stamped) (b : Bool) → outranks s k ≡ b → cond b None (Some k) ≡ Some r → Some (cond (outranks s k) s k) ≡ Some k
-superseded_at p s k r true at is = absurd (cc)
-superseded_at p s k r false at is = rw at refl
+pub told : (s : Stamped) (o : Option Stamped) (put : Put) → Some put ≡ told_of s o → put ≡ superseded_by (unless_outranked s o)
+told s None put is = absurd (cc)
+told s (Some k) put is = cc
 
--- a record that supersedes stays
-pub superseded_stays : (p : Stamped → Bool) (s : Stamped) (o : Option Stamped) (r : Stamped) → unless_outranked s o ≡ Some r → kept_with p o s ≡ o
-superseded_stays p s None r is = absurd (cc)
-superseded_stays p s (Some k) r is = superseded_at p s k r (outranks s k) refl is
+-- the first record of a track stands if it counts, and changes nothing if it doesn't
+pub first_stands : (p : Stamped → Bool) (s : Stamped) (o : Option Stamped) → o ≡ None → p s ≡ true → kept_with p o s ≡ Some s
+first_stands p s o none passes = rw (none, passes) refl
 
--- a record that counts takes the place of one that it outranks
-pub kept_stands : (p : Stamped → Bool) (s : Stamped) (o : Option Stamped) → unless_outranked s o ≡ None → p s ≡ true → kept_with p o s ≡ Some s
-kept_stands p s None none passes = rw passes refl
-kept_stands p s (Some k) none passes = rw (beaten_at s k (outranks s k) refl none) refl
+pub first_stays : (p : Stamped → Bool) (s : Stamped) (o : Option Stamped) → o ≡ None → p s ≡ false → kept_with p o s ≡ o
+first_stays p s o none fails = rw (none, fails) refl
 
-late_at : (p : Stamped → Bool) → IsUpward p → (s k : Stamped) (b : Bool) → p k ≡ b → p s ≡ false → unless_outranked s (cond b (Some k) None) ≡ None → kept_with p (cond b (Some k) None) s ≡ cond b (Some k) None
-late_at p up s k true at fails none =
-    let above = beaten_at s k (outranks s k) refl none in
-    let passed = up k s (outranks_one s k above) at in
-    absurd (cc)
-late_at p up s k false at fails none = rw fails refl
+above_at : (p : Stamped → Bool) (s k : Stamped) (b : Bool) → outranks s k ≡ b → Kept ≡ superseded_by (cond b None (Some k)) → kept_with p (Some k) s ≡ Some s
+above_at p s k true at is = rw at refl
+above_at p s k false at is = absurd (cc)
 
-late_option : (p : Stamped → Bool) → IsUpward p → (s : Stamped) (t : Option Stamped) → p s ≡ false → unless_outranked s (option_filter p t) ≡ None → kept_with p (option_filter p t) s ≡ option_filter p t
-late_option p up s None fails none = rw fails refl
-late_option p up s (Some k) fails none = late_at p up s k (p k) refl fails none
+-- a record takes the place of one that it outranks
+above_stands : (p : Stamped → Bool) (s : Stamped) (o : Option Stamped) → Some Kept ≡ told_of s o → kept_with p o s ≡ Some s
+above_stands p s None is = absurd (cc)
+above_stands p s (Some k) is = above_at p s k (outranks s k) refl (told s (Some k) Kept is)
 
--- a record that doesn't count changes nothing
-pub late_stays : (timeout : ℤ) (frozen : Option ℤ) (puts : List Stamped) (s : Stamped) (es : List (TrackKey × Stamped)) → es ≡ kept_of timeout frozen puts →
-    unless_outranked s (found s.track.key es) ≡ None → counts timeout frozen s ≡ false → kept_with (counts timeout frozen) (found s.track.key es) s ≡ found s.track.key es
-late_stays timeout frozen puts s es stands none fails =
-    let here = ap (found s.track.key) stands ∙ found_kept timeout frozen puts s.track.key in
-    rw here (late_option (counts timeout frozen) (counts_upward timeout frozen) s (highest (of_key s.track.key puts)) fails (rw here at none))
+below_at : (p : Stamped → Bool) (s k r : Stamped) (b : Bool) → outranks s k ≡ b → Superseded r ≡ superseded_by (cond b None (Some k)) → kept_with p (Some k) s ≡ Some k
+below_at p s k r true at is = absurd (cc)
+below_at p s k r false at is = rw at refl
+
+-- and changes nothing where it doesn't
+below_stays : (p : Stamped → Bool) (s : Stamped) (o : Option Stamped) (r : Stamped) → Some (Superseded r) ≡ told_of s o → kept_with p o s ≡ o
+below_stays p s None r is = absurd (cc)
+below_stays p s (Some k) r is = below_at p s k r (outranks s k) refl (told s (Some k) (Superseded r) is)
+
+-- where a record is kept for the track, the entries are then what is kept
+pub put_over_stands : (timeout : ℤ) (frozen : Option ℤ) (puts : List Stamped) (s : Stamped) (es fs : List (TrackKey × Stamped)) (put : Put) → es ≡ kept_of timeout frozen puts →
+    Some put ≡ told_of s (found s.track.key es) → (Some put ≡ Some Kept → fs ≡ insert_entry key_cmp es s.track.key s) → ((Some put ≡ Some Kept → ⊥) → fs ≡ es) →
+    fs ≡ kept_of timeout frozen (puts ++ s ∷ [])
+put_over_stands timeout frozen puts s es fs Kept stands is written same =
+    written refl ∙ put_inserts timeout frozen puts s es stands (above_stands (counts timeout frozen) s (found s.track.key es) is)
+put_over_stands timeout frozen puts s es fs (Superseded r) stands is written same =
+    same (λ e. cc) ∙ put_stays timeout frozen puts s es stands (below_stays (counts timeout frozen) s (found s.track.key es) r is)

@@ -1,6 +1,6 @@
 -- What a table keeps of all records put into it, and what it answers to one more (this project's profile).
 use Rattle.std.specs.Prelude.{◌≡◌, ℕ, ◌≤◌, Bool, true, not, ◌&&◌, List, map, Option, Some, None, ℤ, ◌≤ℤ◌, filter, All, if◌then◌else◌}
-use Rattle.std.specs.Option.{ForSome}
+use Rattle.std.specs.Option.{ForSome, option_map}
 use Rattle.track_motion.specs.declared.rank.Stamped.{Stamped}
 use Rattle.track_motion.specs.declared.track.TrackKey.{TrackKey}
 use Rattle.track_motion.specs.Ranks.{outranks}
@@ -43,6 +43,10 @@ superseded_by (Some r) = Superseded r
 
 abbrev pub answer_to : ℤ → Option ℤ → List Stamped → Stamped → Put
 answer_to timeout frozen puts s = superseded_by (highest (unbeaten timeout frozen puts s))
+
+-- what becomes of a record where one is kept for its track
+abbrev pub told_of : Stamped → Option Stamped → Option Put
+told_of s kept = option_map (λ r. superseded_by (unless_outranked s (Some r))) kept
 
 -- a table can be taken of a cycle that doesn't end before the last one taken
 pub record CanFreeze (held : Held) (cycle : ℕ) : Type 0 where

@@ -1,5 +1,6 @@
 pub mod Held
 pub mod Kept
+pub mod KeyOrder
 pub mod Order
 pub mod Proper
 pub mod Stamps

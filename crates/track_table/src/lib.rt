@@ -2,11 +2,15 @@
 #![tactic(auto)]
 
 mod clock;
+mod latest;
 pub mod laws;
 pub mod rows;
 pub mod table;
 
 pub use clock::{FeedClock, MOST_TRACKS};
+// Who names a `Table` in a contract names the types of its fields.
+#[doc(hidden)]
+pub use latest::Latest;
 pub use rows::Rows;
 pub use table::{Frozen, Put, Table};
 

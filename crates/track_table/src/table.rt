@@ -1,18 +1,16 @@
 //! The table of tracks: what is kept of all records put, and the rows of a cycle.
-ghost use Rattle.std.specs.Prelude.{◌≡◌, ◌≢◌, [], ◌∷◌, ◌++◌, List, None, Some, IfOk, OnOk, OnErr, filter};
-ghost use Rattle.std.specs.BTreeMap.{get, values};
+ghost use Rattle.std.specs.Prelude.{◌≡◌, ◌≢◌, [], ◌∷◌, ◌++◌, List, None, Some, IfOk, OnOk, OnErr};
 ghost use Rattle.track_motion.specs.declared.rank.Stamped.{Stamped};
-ghost use Rattle.track_motion.specs.Keys.{key_cmp};
-ghost use Rattle.track_table.specs.Kept.{AreDue, CanFreeze, StandsFor, answer_to, counting, counts, unless_outranked};
-ghost use Rattle.track_table.specs.Tables.{is_recent, is_row, table};
+ghost use Rattle.track_table.specs.Kept.{AreDue, CanFreeze, StandsFor, answer_to, counting, counts};
+ghost use Rattle.track_table.specs.Tables.{table};
 ghost use Rattle.track_table.specs.Times.{IsTime, cycle_time};
 
 use crate::NoMemory;
+use crate::latest::{Latest, is_recent};
 use crate::rows::Rows;
 use std::alloc::Global;
-use std::collections::BTreeMap;
 use std::marker::Model;
-use track_motion::{Stamped, TrackKey, rank_less};
+use track_motion::Stamped;
 
 /// What becomes of a record that is put into a table.
 #[derive(Clone, Copy, Debug, PartialEq, Eq)]
@@ -40,7 +38,7 @@ pub struct Table {
     period: i64,
     timeout: i64,
     frozen: Option<i64>,
-    kept: BTreeMap<TrackKey, Stamped>,
+    kept: Latest,
     alloc: Global,
 }
 
@@ -49,7 +47,7 @@ impl Model for Table {
 
     ghost Value = { Held };
 
-    ghost view = { λ t. record { start = t.start; period = t.period; timeout = t.timeout; frozen = t.frozen; kept = t.kept.entries } };
+    ghost view = { λ t. record { start = t.start; period = t.period; timeout = t.timeout; frozen = t.frozen; kept = t.kept } };
 }
 
 impl Table {
@@ -64,7 +62,7 @@ impl Table {
             period,
             timeout,
             frozen: None,
-            kept: BTreeMap::new(alloc),
+            kept: Latest::new(alloc),
             alloc,
         }
     }
@@ -77,11 +75,11 @@ impl Table {
         ensures memory { OnErr result ((puts : List Stamped) → StandsFor self.old puts → counting self.old.timeout self.old.frozen s.track.key puts ≡ []) }
         ensures err { OnErr result (self.new ≡ self.old) }
     {
-        if let Some(r) = superseding(&self.kept, &s) {
-            return Ok(Put::Superseded(r));
+        if let Some(put) = self.kept.put_over(&s) {
+            return Ok(put);
         }
         if counts(&s, self.timeout, self.frozen) {
-            self.kept.insert(s.track.key, s)?;
+            self.kept.insert(s)?;
         }
         Ok(Put::Kept)
     }
@@ -98,8 +96,8 @@ impl Table {
         ensures err { OnErr result (self.new ≡ self.old) }
     {
         let time = cycle_time(self.start, self.period, k);
-        let rows = rows_at(self.alloc, &self.kept, time, self.timeout)?;
-        keep_recent(&mut self.kept, time, self.timeout);
+        let rows = self.kept.rows_at(self.alloc, time, self.timeout)?;
+        self.kept.keep_recent(time, self.timeout);
         self.frozen = Some(time);
         Ok(Frozen {
             cycle: k,
@@ -117,23 +115,6 @@ fn cycle_time(start: i64, period: i64, k: u64) -> i64
     (i128::from(start) + (i128::from(k) + 1) * i128::from(period)) as i64
 }
 
-/// A record was told at most the timeout before a time.
-fn is_recent(row: &Stamped, time: i64, timeout: i64) -> bool
-    ensures { result ≡ is_recent time timeout row.now }
-{
-    i128::from(time) - i128::from(row.at) <= i128::from(timeout)
-}
-
-/// The record kept for the same track, unless it is outranked.
-fn superseding(kept: &BTreeMap<TrackKey, Stamped>, s: &Stamped) -> Option<Stamped>
-    ensures { result ≡ unless_outranked s.now (get key_cmp kept.now s.now.track.key) }
-{
-    match kept.get(&s.track.key) {
-        Some(r) if !rank_less(r, s) => Some(*r),
-        _ => None,
-    }
-}
-
 /// A record counts: no table was taken yet, or it was told at most the timeout before the last one's time.
 fn counts(s: &Stamped, timeout: i64, frozen: Option<i64>) -> bool
     ensures { result ≡ counts timeout frozen s.now }
@@ -142,30 +123,4 @@ fn counts(s: &Stamped, timeout: i64, frozen: Option<i64>) -> bool
         None => true,
         Some(time) => is_recent(s, time, timeout),
     }
-}
-
-/// Lets go what was told longer than the timeout before a time.
-fn keep_recent(kept: &mut BTreeMap<TrackKey, Stamped>, time: i64, timeout: i64)
-    ensures { kept.new.entries ≡ filter (λ entry. is_recent time timeout entry.1) kept.old.entries }
-{
-    kept.retain(|_, row| is_recent(row, time, timeout));
-}
-
-/// The rows at a time.
-fn rows_at(
-    alloc: Global,
-    kept: &BTreeMap<TrackKey, Stamped>,
-    time: i64,
-    timeout: i64,
-) -> Result<Rows, NoMemory>
-    ensures rows { IfOk result (λ rows. rows ≡ filter (is_row time timeout) (values kept.now)) }
-    ensures memory { OnErr result (filter (is_row time timeout) (values kept.now) ≢ []) }
-{
-    let mut rows = Vec::new(alloc);
-    for row in kept.values() {
-        if !row.track.ended && is_recent(row, time, timeout) {
-            rows.push(*row)?;
-        }
-    }
-    Ok(Rows::new(rows))
 }

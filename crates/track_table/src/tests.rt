@@ -236,6 +236,23 @@ fn rows_in_key_order(rt: HostRuntime) -> Result<(), Fail> {
     Ok(())
 }
 
+/// Two hundred tracks, put from the last key to the first: those of odd numbers are rows, and the others were
+/// told a tick too early.
+#[test]
+fn many_tracks_put_against_key_order(rt: HostRuntime) -> Result<(), Fail> {
+    let mut table = Table::new(rt.alloc(), START, PERIOD, TIMEOUT);
+    let mut puts = [told(4_600_831, 0); 200];
+    let mut rows = [told(4_600_832, 0); 100];
+    for i in 0..100 {
+        puts[199 - 2 * i].track.key.number = 2 * i as u16;
+        rows[i].track.key.number = 2 * i as u16 + 1;
+        puts[198 - 2 * i] = rows[i];
+    }
+    expect_puts(&rt, &mut table, &puts, Put::Kept)?;
+    expect_rows(&rt, &table.freeze(0)?, 4_608_512, &rows);
+    Ok(())
+}
+
 /// Puts a record, once more where it was refused memory: the table was then as before.
 fn put_again(
     rt: &impl Abort,

@@ -13,6 +13,7 @@ use Rattle.track_motion.specs.declared.rank.Stamped.{Stamped}
 use Rattle.replay_cli.specs.Content.{Content}
 use Rattle.replay_cli.specs.Cycling.{behind_due}
 use Rattle.replay_cli.specs.Reference.{alerts, cycles}
+use Rattle.replay_cli.proofs.Ends.{nothing_is_prefix}
 use Rattle.replay_cli.proofs.TableLaws.{lawful}
 use Rattle.replay_cli.proofs.Making.{AreMade, IsDone, all_made, are_reached, at_err, fault_handed_on, fault_told, freezes, frozen_at, is_table, none_made, one_more, prefix_cut, prefix_made, stopped}
 use Rattle.replay_cli.proofs.Sites.{fresh_held, timed}
@@ -33,6 +34,10 @@ loop-engine-init g c =
           (fresh_held site c.new-table.result is_timed c.new-table.ensures.held) c.new-table.ensures.stands c.in_ok-engine.ensures.setting c.in_ok-engine.ensures.stands refl);
       quiet = refl;
     }
+
+pub returns-in_err-engine-clause-prefix : goal.returns-in_err-engine-clause-prefix
+returns-in_err-engine-clause-prefix g c =
+    at_err c.from_residual-in_err-engine.result (nothing_is_prefix (g.K.Sink.taken c.args.out.now) (g.K.Sink.taken c.args.out.now) (alerts (setting c.args.site.now c.args.terrain.now) c.args.inputs.now) refl)
 
 pub returns-in_err-put_all_due-clause-prefix : goal.returns-in_err-put_all_due-clause-prefix
 returns-in_err-put_all_due-clause-prefix g c =

@@ -1,7 +1,7 @@
 use Rattle.std.proofs.Common.{◌≡◌, ◌≢◌, [], ◌≤ℤ◌, w64, FitsSigned, ap, sym, subst, ◌∙◌, rules}
 use Rattle.std.specs.Prelude.{filter}
 use Rattle.std.specs.Option.{ForSome}
-use Rattle.std.specs.BTreeMap.{values}
+use Rattle.std.specs.Map.{values_of}
 use Rattle.std.proofs.lemmas.Int.{to_z-of_z}
 use Rattle.std.proofs.lemmas.Result.{err_from_is_err_and}
 use Rattle.track_motion.specs.declared.rank.Stamped.{Stamped}
@@ -23,10 +23,10 @@ returns-clause-rows c = λ puts stands due.
     let time : FitsSigned w64 c.cycle_time-time.result = search rules in
     let at : c.cycle_time-time.result ≡ cycle_time inside.start inside.period c.args.k = simp to_z-of_z at c.cycle_time-time.ensures in
     let can = subst (λ (h : Held). CanFreeze h c.args.k) (sym c.self.view_is) c.requires in
-    let held : inside.kept.entries ≡ kept_of inside.timeout inside.frozen puts = subst (λ (h : Held). h.kept ≡ kept_of h.timeout h.frozen puts) (sym c.self.view_is) stands in
-    let rows : c.in_ok-rows.rows ≡ filter (is_row (cycle_time inside.start inside.period c.args.k) inside.timeout) (values inside.kept) = rw at at (simp to_z-of_z at c.in_ok-rows.ensures.rows) in
+    let held : inside.kept ≡ kept_of inside.timeout inside.frozen puts = subst (λ (h : Held). h.kept ≡ kept_of h.timeout h.frozen puts) (sym c.self.view_is) stands in
+    let rows : c.in_ok-rows.rows ≡ filter (is_row (cycle_time inside.start inside.period c.args.k) inside.timeout) (values_of inside.kept) = rw at at (simp to_z-of_z at c.in_ok-rows.ensures.rows) in
     rows
-    ∙ freeze_rows inside.start inside.period inside.timeout inside.frozen c.args.k puts inside.kept.entries can.order held due
+    ∙ freeze_rows inside.start inside.period inside.timeout inside.frozen c.args.k puts inside.kept can.order held due
     ∙ ap (λ (h : Held). table h.start h.period h.timeout c.args.k puts) c.self.view_is
 
 pub returns-clause-stands : goal.returns-clause-stands
@@ -39,9 +39,9 @@ returns-clause-stands c = λ puts stands.
     let at : c.cycle_time-time.result ≡ cycle_time inside.start inside.period c.args.k = simp to_z-of_z at c.cycle_time-time.ensures in
     let can = subst (λ (h : Held). CanFreeze h c.args.k) (sym c.self.view_is) c.requires in
     let order : ForSome inside.frozen (λ last. last ≤ℤ c.cycle_time-time.result) = rw at can.order in
-    let held : inside.kept.entries ≡ kept_of inside.timeout inside.frozen puts = subst (λ (h : Held). h.kept ≡ kept_of h.timeout h.frozen puts) (sym c.self.view_is) stands in
-    let kept : c.keep_recent.new.kept.entries ≡ filter (λ (e : TrackKey × Stamped). is_recent c.cycle_time-time.result inside.timeout e.1) inside.kept.entries = simp to_z-of_z at c.keep_recent.ensures in
-    simp to_z-of_z (kept ∙ freeze_keeps inside.timeout inside.frozen c.cycle_time-time.result puts inside.kept.entries order held)
+    let held : inside.kept ≡ kept_of inside.timeout inside.frozen puts = subst (λ (h : Held). h.kept ≡ kept_of h.timeout h.frozen puts) (sym c.self.view_is) stands in
+    let kept : c.keep_recent.new.self ≡ filter (λ (e : TrackKey × Stamped). is_recent c.cycle_time-time.result inside.timeout e.1) inside.kept = simp to_z-of_z at c.keep_recent.ensures in
+    simp to_z-of_z (kept ∙ freeze_keeps inside.timeout inside.frozen c.cycle_time-time.result puts inside.kept order held)
 
 pub returns-in_err-rows-clause-memory : goal.returns-in_err-rows-clause-memory
 returns-in_err-rows-clause-memory c =
@@ -53,10 +53,10 @@ returns-in_err-rows-clause-memory c =
     let time : FitsSigned w64 c.cycle_time-time.result = search rules in
     let at : c.cycle_time-time.result ≡ cycle_time inside.start inside.period c.args.k = simp to_z-of_z at c.cycle_time-time.ensures in
     let can = subst (λ (h : Held). CanFreeze h c.args.k) (sym c.self.view_is) c.requires in
-    let some : filter (is_row (cycle_time inside.start inside.period c.args.k) inside.timeout) (values inside.kept) ≢ [] = rw at at (simp to_z-of_z at c.in_err-rows.ensures.memory) in
+    let some : filter (is_row (cycle_time inside.start inside.period c.args.k) inside.timeout) (values_of inside.kept) ≢ [] = rw at at (simp to_z-of_z at c.in_err-rows.ensures.memory) in
     rw failed.1 (λ puts stands due none.
-    let held : inside.kept.entries ≡ kept_of inside.timeout inside.frozen puts = subst (λ (h : Held). h.kept ≡ kept_of h.timeout h.frozen puts) (sym c.self.view_is) stands in
+    let held : inside.kept ≡ kept_of inside.timeout inside.frozen puts = subst (λ (h : Held). h.kept ≡ kept_of h.timeout h.frozen puts) (sym c.self.view_is) stands in
     some
-    (freeze_rows inside.start inside.period inside.timeout inside.frozen c.args.k puts inside.kept.entries can.order held due
+    (freeze_rows inside.start inside.period inside.timeout inside.frozen c.args.k puts inside.kept can.order held due
     ∙ ap (λ (h : Held). table h.start h.period h.timeout c.args.k puts) c.self.view_is
     ∙ none))

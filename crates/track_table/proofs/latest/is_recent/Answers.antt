@@ -1,7 +1,7 @@
 use Rattle.std.proofs.Common.{◌-ℤ◌, w64, FitsSigned, arith, rules}
 use mir.Syntax.{w128}
 use Rattle.std.proofs.lemmas.Int.{to_z-of_z, fits_signed_from_abs, ints}
-use Rattle.track_table.proofs.table.is_recent.Goals as goal
+use Rattle.track_table.proofs.latest.is_recent.Goals as goal
 
 pub returns : goal.returns
 returns c =

@@ -1,10 +1,10 @@
 use Rattle.std.proofs.Common.{◌≡◌, [], ◌∷◌, ◌++◌, Bool, true, List, cond, filter, w64, FitsSigned, ap, sym, ◌∙◌}
-use Rattle.std.specs.BTreeMap.{values}
+use Rattle.std.specs.HashMap.{values}
 use Rattle.std.proofs.lemmas.Int.{to_z-of_z}
 use Rattle.std.proofs.lemmas.Result.{err_from_is_err_and}
 use Rattle.track_motion.specs.declared.rank.Stamped.{Stamped}
 use Rattle.track_table.specs.Tables.{is_recent, is_row}
-use Rattle.track_table.proofs.table.rows_at.Goals as goal
+use Rattle.track_table.proofs.latest.rows_among.Goals as goal
 
 no_end : (before more : List Stamped) (row : Stamped) → before ++ row ∷ more ≡ [] → ⊥
 no_end [] more row none = cc
@@ -24,5 +24,5 @@ returns-in_err-push-clause-memory c =
     let p = is_row c.args.time c.args.timeout in
     let recent : c.is_recent.result ≡ is_recent c.args.time c.args.timeout row = simp to_z-of_z at c.is_recent.ensures in
     let passes : p row ≡ true = rw c.if-not-row.true (sym recent ∙ c.if-is_recent.true) in
-    let so_far : c.loop-row.rows.items ++ filter p c.loop-row.row-iterator ≡ filter p (values c.args.kept.now) = simp to_z-of_z at c.loop-row.invariant in
-    rw failed.1 (some_pass p c.loop-row.rows.items c.next.new.self (filter p (values c.args.kept.now)) row passes (rw c.in-Some.ensures.steps at so_far))
+    let so_far : c.loop-row.rows.items ++ filter p c.loop-row.row-iterator ≡ filter p (values c.args.records.now) = simp to_z-of_z at c.loop-row.invariant in
+    rw failed.1 (some_pass p c.loop-row.rows.items c.next.new.self (filter p (values c.args.records.now)) row passes (rw c.in-Some.ensures.steps at so_far))
