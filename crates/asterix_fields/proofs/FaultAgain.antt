@@ -4,7 +4,7 @@ use Rattle.std.specs.Option.{option_map}
 use Rattle.std.specs.List.{AllByRecursion, list_all}
 use Rattle.std.specs.Prelude.{nat_le, ◌↔◌}
 use Rattle.std.proofs.Math.Dec.{eqb-suc-zero}
-use Rattle.std.proofs.lemmas.Bool.{ne_eqb, cases_eq, cases_lt, leb-true, and_parts}
+use Rattle.std.proofs.lemmas.Bool.{ne_eqb, cases_lt, leb-true, and_parts}
 use Rattle.std.proofs.lemmas.List.{length-take-le, length-drop, take-append-drop, append-nil, drop_more, take_at, drop_at, get_or-take, get_or_past, get_or-drop}
 use Rattle.asterix_fields.specs.declared.tables.Form.{Form}
 use Rattle.asterix_fields.specs.declared.tables.Form.TheVariants.{Spare, Fixed, Extended, Explicit, Repeat, Compound}
@@ -14,7 +14,7 @@ use Rattle.asterix_fields.specs.Tables.{has_length, is_row, rows_of, WellFormed}
 use Rattle.asterix_fields.specs.Spelling.{joined, is_named, IsSimple, Stands, Item, places}
 use Rattle.asterix_fields.specs.Faults.{first_named, so_many, extended_at, explicit_at, repeated_at, simple_at, presence_at, fspec_at, primary_at, spare_subfield, named_at, spans_at, compound_at, item_at, no_more, record_at, fault, fault_of}
 use Rattle.asterix_fields.specs.FirstFault.{AllAsk, IsCut, FspecFails, NamesSpare, PrimaryFails, ArePartsOnly, ExplicitFails, RepeatFails, SimpleFails, RowFails, CompoundFails, ItemFails, IsFirstFault}
-use Rattle.asterix_fields.proofs.PresenceLaws.{Read, named_take, named_past, first_named_again, fspec_again, primary_again}
+use Rattle.asterix_fields.proofs.PresenceLaws.{Read, named_take, named_past, first_named_again, first_named_found, fspec_again, primary_again}
 use Rattle.asterix_fields.proofs.SimpleLaws.{extended_over}
 use Rattle.asterix_fields.proofs.RowLaws.{Reads, stands_again, AreTexts-from_each, spans_again}
 use Rattle.asterix_fields.proofs.RecordLaws.{all_of, sized_row, row_reads, IsGood, item_reads, good_uap}
@@ -70,20 +70,6 @@ presence_spare spare past long index octet rest found here = rw here refl
 fspec_fails : (bytes : List ℕ) (found : ItemFault) → FspecFails bytes found → fspec_at bytes ≡ Err found
 fspec_fails bytes found (inl w) = presence_cut (λ index. None) (PastEnd 0) LongFspec bytes w.0 (λ i h. refl) ∙ ap (λ (d : ItemFault). Err d) (sym w.1)
 fspec_fails bytes found (inr w) = presence_long (λ index. None) (PastEnd 0) LongFspec 0 4 bytes refl w.0.0 w.0.1 (λ i low high. refl) ∙ ap (λ (d : ItemFault). Err d) (sym w.1)
-
-first_named_found : (octets : List ℕ) (count number found : ℕ) → number ≤ found → found < number + count → is_named octets found ≡ true
-    → ((i : ℕ) → number ≤ i → i < found → is_named octets i ≡ false) → first_named octets count number ≡ Some found
-unfolding first_named
-first_named_found octets zero number found low high named none = absurd (omega arith)
-first_named_found octets (suc count) number found low high named none =
-    elim (cases_eq number found) [
-      | inl same ↦
-          let here : is_named octets number ≡ true = ap (is_named octets) same ∙ named in
-          rw here (ap (λ (n : ℕ). Some n) same)
-      | inr apart ↦
-          let here : is_named octets number ≡ false = none number (omega arith) (omega arith) in
-          rw here (first_named_found octets count (number + 1) found (omega arith) (omega arith) named (λ i below above. none i (omega arith) above))
-    ]
 
 spare_none_again : (bytes : List ℕ) (rows index : ℕ) → ((number : ℕ) → rows < number → 7 * index + 1 ≤ number → number ≤ 7 * index + 7 → is_named bytes number ≡ false) → spare_subfield bytes rows index ≡ None
 spare_none_again bytes rows index none =

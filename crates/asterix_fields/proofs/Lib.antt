@@ -1,9 +1,11 @@
 pub mod Octets
 pub mod Steps
 pub mod PresenceLaws
+pub mod PresenceBits
 pub mod SimpleLaws
 pub mod RowLaws
 pub mod RecordLaws
 pub mod FaultLaws
 pub mod FirstFaultLaws
 pub mod FaultAgain
+pub mod SubfieldLaws

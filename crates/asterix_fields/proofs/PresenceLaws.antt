@@ -131,6 +131,20 @@ first_named_again octets (suc count) number none =
     let here : is_named octets number ≡ false = none number (omega arith) (omega arith) in
     rw here (first_named_again octets count (number + 1) (λ i low high. none i (omega arith) (omega arith)))
 
+pub first_named_found : (octets : List ℕ) (count number found : ℕ) → number ≤ found → found < number + count → is_named octets found ≡ true
+    → ((i : ℕ) → number ≤ i → i < found → is_named octets i ≡ false) → first_named octets count number ≡ Some found
+unfolding first_named
+first_named_found octets zero number found low high named none = absurd (omega arith)
+first_named_found octets (suc count) number found low high named none =
+    elim (cases_eq number found) [
+      | inl same ↦
+          let here : is_named octets number ≡ true = ap (is_named octets) same ∙ named in
+          rw here (ap (λ (n : ℕ). Some n) same)
+      | inr apart ↦
+          let here : is_named octets number ≡ false = none number (omega arith) (omega arith) in
+          rw here (first_named_found octets count (number + 1) found (omega arith) (omega arith) named (λ i below above. none i (omega arith) above))
+    ]
+
 -- ---- the FSPEC
 
 pub fspec_takes : (bytes : List ℕ) (n : ℕ) → fspec_at bytes ≡ Ok n → (n ≤ length bytes) × IsPresence (take n bytes)

@@ -2,5 +2,6 @@ pub mod Numbers
 pub mod Tables
 pub mod Spelling
 pub mod Faults
+pub mod Bits
 pub mod FirstFault
 pub mod Reading

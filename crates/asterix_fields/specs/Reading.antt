@@ -14,6 +14,11 @@ abbrev pub found_of : {N : ℕ} → Result (Walk N) ItemFault → Result (List S
 found_of (Ok walk) = Ok (walk.spans, walk.length)
 found_of (Err fault) = Err fault
 
+-- the same of places that stand beside the length
+abbrev pub found_in : List Span → Result ℕ ItemFault → Result (List Span × ℕ) ItemFault
+found_in spans (Ok length) = Ok (spans, length)
+found_in spans (Err fault) = Err fault
+
 -- whatever record the octets begin with, it is found: as many octets, and places at which its items stand
 abbrev pub FindsSpelled : List Form → List Form → List ℕ → Result (List Span × ℕ) ItemFault → Type 0
 FindsSpelled uap subs bytes found = (text rest : List ℕ) (items : List (List ℕ)) → Spells uap subs text items → bytes ≡ text ++ rest

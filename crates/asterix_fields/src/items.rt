@@ -1,16 +1,51 @@
 //! How many octets an item has, by its form.
 
-ghost use Rattle.std.specs.Prelude.{◌≡◌, ◌≤◌, ◌<◌, ◌+◌, ◌^◌, IsTrue, IfOk, length};
+ghost use Rattle.std.specs.Prelude.{◌≡◌, ◌≤◌, ◌<◌, ◌+◌, ℕ, IsTrue, IfOk, List, length, drop};
 ghost use Rattle.std.specs.List.{list_all};
 ghost use Rattle.asterix_fields.specs.Tables.{has_length, has_rows, is_row};
-ghost use Rattle.asterix_fields.specs.Faults.{so_many, extended_at, simple_at, named_at, spans_at, end_of, compound_at, item_at};
+ghost use Rattle.asterix_fields.specs.Bits.{EndsTold};
+ghost use Rattle.asterix_fields.specs.Faults.{so_many, extended_at, simple_at, spans_at, end_of, compound_at, item_at};
 
 use crate::fault::ItemFault;
-use crate::presence::{is_named, primary_length};
+use crate::presence::{bits_of, first_past, primary_length};
 use crate::tables::{Form, rows_of};
 
+/// How many octets the item has that stands at this place.
+pub fn item_length(
+    frn: u8,
+    form: Form,
+    subs: &[Form],
+    bytes: &[u8],
+    at: usize,
+) -> Result<usize, ItemFault>
+    requires sized { IsTrue (has_length form) }
+    requires rows { IsTrue (has_rows subs.now form) }
+    requires inside { at ≤ length bytes.now }
+    ensures value { result ≡ item_at subs.now frn form (drop at bytes.now) }
+    ensures within { IfOk result (λ size. at + size ≤ length bytes.now) }
+{
+    match form {
+        Form::Fixed(size) => fixed_length(frn, size as usize, bytes, at),
+        _ => {
+            let (_, rest) = bytes.split_at(at);
+            front_length(frn, form, subs, rest)
+        }
+    }
+}
+
+fn fixed_length(frn: u8, size: usize, bytes: &[u8], at: usize) -> Result<usize, ItemFault>
+    requires inside { at ≤ length bytes.now }
+    ensures value { result ≡ so_many frn size (drop at bytes.now) }
+    ensures within { IfOk result (λ size. at + size ≤ length bytes.now) }
+{
+    if bytes.len() - at < size {
+        return Err(ItemFault::PastEnd(frn));
+    }
+    Ok(size)
+}
+
 /// How many octets the item at the front has.
-pub fn item_length(frn: u8, form: Form, subs: &[Form], bytes: &[u8]) -> Result<usize, ItemFault>
+fn front_length(frn: u8, form: Form, subs: &[Form], bytes: &[u8]) -> Result<usize, ItemFault>
     requires sized { IsTrue (has_length form) }
     requires rows { IsTrue (has_rows subs.now form) }
     ensures value { result ≡ item_at subs.now frn form bytes.now }
@@ -82,50 +117,48 @@ fn compound_length(frn: u8, rows: &[Form], bytes: &[u8]) -> Result<usize, ItemFa
     ensures within { IfOk result (λ size. size ≤ length bytes.now) }
 {
     let primary = primary_length(frn, rows.len(), bytes)?;
-    let (presence, rest) = bytes.split_at(primary);
-    subfields_end(frn, rows, presence, primary, rest)
+    let (presence, _) = bytes.split_at(primary);
+    subfields_end(frn, rows, bits_of(presence), primary, bytes)
 }
 
-/// Where the subfields end that the primary octets name: the first stands at `start`, with these octets.
+/// Where the subfields end that the primary octets name by these bits: the first stands at `start`.
 fn subfields_end(
     frn: u8,
     rows: &[Form],
-    presence: &[u8],
+    bits: u64,
     start: usize,
     bytes: &[u8],
 ) -> Result<usize, ItemFault>
     requires fixed_or_repeated { IsTrue (list_all is_row rows.now) }
     requires few { length rows.now < 256 }
-    requires room { start + length bytes.now < 2 ^ 64 }
-    ensures value { result ≡ end_of (spans_at (λ number. simple_at frn) presence.now 1 start rows.now bytes.now) }
-    ensures within { IfOk result (λ end. end ≤ start + length bytes.now) }
+    requires inside { start ≤ length bytes.now }
+    ensures value { EndsTold frn rows.now bits start bytes.now result }
+    ensures within { IfOk result (λ end. end ≤ length bytes.now) }
 {
     let mut at = start;
-    let mut rest = bytes;
-    for (index, row) in rows.iter().enumerate() {
-        let size = subfield_length(frn, index + 1, *row, presence, rest)?;
-        at += size;
-        let (_, after) = rest.split_at(size);
-        rest = after;
+    let mut done = 0;
+    while let Some(number) = first_past(bits, done) {
+        match rows.get(number as usize - 1) {
+            Some(row) => at += row_length(frn, *row, bytes, at)?,
+            None => return Ok(at),
+        }
+        done = number as usize;
     }
     Ok(at)
 }
 
-fn subfield_length(
-    frn: u8,
-    number: usize,
-    row: Form,
-    presence: &[u8],
-    bytes: &[u8],
-) -> Result<usize, ItemFault>
-    requires above_zero { 1 ≤ number }
+/// How many octets a subfield has that stands at this place.
+fn row_length(frn: u8, row: Form, bytes: &[u8], at: usize) -> Result<usize, ItemFault>
     requires fixed_or_repeated { IsTrue (is_row row) }
-    ensures value { result ≡ named_at (λ number. simple_at frn) presence.now number row bytes.now }
-    ensures within { IfOk result (λ size. size ≤ length bytes.now) }
+    requires inside { at ≤ length bytes.now }
+    ensures value { result ≡ simple_at frn row (drop at bytes.now) }
+    ensures within { IfOk result (λ size. at + size ≤ length bytes.now) }
 {
-    if is_named(presence, number) {
-        simple_length(frn, row, bytes)
-    } else {
-        Ok(0)
+    match row {
+        Form::Fixed(size) => fixed_length(frn, size as usize, bytes, at),
+        _ => {
+            let (_, rest) = bytes.split_at(at);
+            simple_length(frn, row, rest)
+        }
     }
 }

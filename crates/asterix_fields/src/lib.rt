@@ -15,7 +15,7 @@ pub use fault::ItemFault;
 pub use numbers::{be16, be24, be32, put16, put24, put32, signed16, signed24, signed32};
 pub use places::{Span, Walk};
 pub use tables::{Form, Subs, Uap, well_formed};
-pub use walking::walk;
+pub use walking::{find_items, walk};
 
 #[cfg(test)]
 mod tests;

@@ -71,6 +71,29 @@ fn records_without_items(rt: HostRuntime) {
     check(&rt, &[1, 0], found(2, 7, 2, 0));
 }
 
+/// One list of places for three texts: a record writes over the places of the one before, and a fault is told beside them.
+#[test]
+fn places_of_one_record_after_another(rt: HostRuntime) {
+    let mut spans = [Span { at: 0, len: 0 }; 7];
+    assert_eq!(rt;
+        find_items(&ITEMS, &SUBFIELDS, &[0x80, 0x19, 0x0A], &mut spans),
+        Ok(3)
+    );
+    assert_eq!(rt;
+        (spans[0], spans[6]),
+        (Span { at: 1, len: 2 }, Span { at: 3, len: 0 })
+    );
+    assert_eq!(rt; find_items(&ITEMS, &SUBFIELDS, &[0], &mut spans), Ok(1));
+    assert_eq!(rt;
+        (spans[0], spans[6]),
+        (Span { at: 1, len: 0 }, Span { at: 1, len: 0 })
+    );
+    assert_eq!(rt;
+        find_items(&ITEMS, &SUBFIELDS, &[0x40], &mut spans),
+        Err(ItemFault::SpareItem(2))
+    );
+}
+
 #[test]
 fn a_fixed_item_with_octets_behind(rt: HostRuntime) {
     check(&rt, &[0x80, 0x19, 0x0A, 0xFF], found(3, 1, 1, 2));

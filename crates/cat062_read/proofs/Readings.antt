@@ -1,6 +1,6 @@
 -- What the computing definitions of a body's records read is spelled, and what is spelled is read.
 use Rattle.std.proofs.Common.{◌≡◌, ℕ, zero, suc, ◌+◌, ◌-◌, ◌≤◌, List, [], ◌∷◌, ◌++◌, length, take, drop, Result, Ok, Err, None, Some, refl, ap, sym, ◌∙◌, subst, arith, append_assoc, length-append, length-take-le, length-drop}
-use Rattle.std.specs.Prelude.{map}
+use Rattle.std.specs.Prelude.{map, IfOk}
 use Rattle.std.proofs.Math.Seq.{drop-append_seam}
 use Rattle.std.proofs.lemmas.List.{take-append-drop}
 use Rattle.asterix_fields.specs.declared.places.Span.{Span}
@@ -11,7 +11,7 @@ use Rattle.asterix_fields.specs.Reading.{AllReadAsSpelled}
 use Rattle.cat062_read.specs.declared.table.TheConstants.{CAT062, SUBS062}
 use Rattle.cat062_read.specs.declared.record.Raw062.{Raw062}
 use Rattle.cat062_read.specs.Contents.{contents}
-use Rattle.cat062_read.specs.Records.{Spells062, fault062, IsFirstFault062, BeginsNone, AllSpelled, IsFront, IsRead, IsRefusal, reading, and_then, read_up_to, records, left_of, refused_at, refusal}
+use Rattle.cat062_read.specs.Records.{Spells062, fault062, IsFirstFault062, BeginsNone, AllSpelled, IsFront, IsRead, IsRefusal, ReadsSpelled, reading, and_then, read_up_to, records, left_of, refused_at, refusal}
 use Rattle.cat062_read.proofs.Tables.{tables_good}
 
 -- ---- what needs no law
@@ -227,3 +227,17 @@ module _ (law : AllReadAsSpelled) where
   pub only_read : (bytes : List ℕ) (r : Raw062 × ℕ) → reading bytes ≡ Ok r
       → (text rest : List ℕ) (items : List (List ℕ)) → Spells062 text items → bytes ≡ text ++ rest → (let found : Result (Raw062 × ℕ) ItemFault = Ok r in found ≡ Ok (contents items, length text))
   only_read bytes r e text rest items spelled same = sym e ∙ ap reading same ∙ reading_again text rest items spelled
+
+  -- ---- what the reading says of a call that answers it
+
+  pub spelled_by : (bytes : List ℕ) (read : Result (Raw062 × ℕ) ItemFault) → read ≡ reading bytes → IfOk read (λ found. IsFront bytes found.0 found.1)
+  spelled_by bytes (Ok r) e = what_is_read bytes r (sym e)
+  spelled_by bytes (Err f) e = tt
+
+  pub only_by : (bytes : List ℕ) (read : Result (Raw062 × ℕ) ItemFault) → read ≡ reading bytes → ReadsSpelled bytes read
+  only_by bytes (Ok r) e = only_read bytes r (sym e)
+  only_by bytes (Err f) e = λ text rest items spelled same. absurd (none_read bytes f (sym e) text rest items spelled same)
+
+pub fault_by : (bytes : List ℕ) (read : Result (Raw062 × ℕ) ItemFault) → read ≡ reading bytes → fault_of read ≡ fault062 bytes
+fault_by bytes (Ok r) e = sym (none_refused bytes r (sym e))
+fault_by bytes (Err f) e = sym (fault_read bytes f (sym e))

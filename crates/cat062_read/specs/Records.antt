@@ -97,3 +97,7 @@ refused_from offset refused = option_map (λ r. record { offset = offset + r.0; 
 abbrev pub HasOneReading : List ℕ → Type 0
 HasOneReading body = (texts : List (List ℕ)) (items : List (List (List ℕ))) (rest : List ℕ) → IsRead body texts items rest
     → (records body ≡ map contents items) × IsRefusal rest (length (joined texts)) (refusal body)
+
+-- some of these records, from the first on, were added to a list
+abbrev pub AddsSome : List Raw062 → List Raw062 → List Raw062 → Type 0
+AddsSome old new all = (front rest : List Raw062) × (all ≡ front ++ rest) × (new ≡ old ++ front)

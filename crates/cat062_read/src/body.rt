@@ -1,10 +1,11 @@
 //! The records of a block's body.
-ghost use Rattle.std.specs.Prelude.{◌≡◌, ◌≢◌, ◌≤◌, [], IfOk, OnErr, All, length};
-ghost use Rattle.cat062_read.specs.Records.{records, refusal, refused_from};
+ghost use Rattle.std.specs.Prelude.{◌≡◌, ◌≢◌, ◌≤◌, ◌++◌, [], IfOk, OnErr, OnOk, All, length};
+ghost use Rattle.cat062_read.specs.Records.{AddsSome, records, refusal, refused_from};
 ghost use Rattle.cat062_read.specs.Tracks.{IsPlaced};
 
-use crate::reading::read_record;
+use crate::reading::{NO_PLACES, read_with};
 use crate::record::Raw062;
+use crate::table::{CAT062, SUBS062};
 use asterix_fields::ItemFault;
 use asterix_fields::laws::read_as_spelled;
 use asterix_fields::sizes::BLOCK_ROOM;
@@ -41,28 +42,43 @@ pub fn read_block(alloc: Global, body: &[u8], offset: u64) -> Result<BlockRead, 
     // Memory is wanted only for a record: a body that is refused at its first takes none.
     ensures memory { OnErr result (records body.now ≢ []) }
 {
+    let mut records = Vec::new(alloc);
+    let refused = add_records(&mut records, body, offset)?;
+    Ok(BlockRead { records, refused })
+}
+
+/// Reads the same behind the records that a list has, and answers what is refused. Where memory is wanting, the
+/// list has some of the body's records behind its own.
+pub fn add_records(
+    list: &mut Vec<Raw062>,
+    body: &[u8],
+    offset: u64,
+) -> Result<Option<Refused>, NoMemory>
+    requires room { length body.now ≤ BLOCK_ROOM }
+    requires early { offset ≤ LAST_PLACE }
+    ensures records { OnOk result (list.new.items ≡ list.old.items ++ records body.now) }
+    ensures refused { IfOk result (λ refused. refused ≡ refused_from offset (refusal body.now)) }
+    ensures placed { OnOk result (All IsPlaced list.old.items → All IsPlaced list.new.items) }
+    ensures memory { OnErr result (records body.now ≢ []) }
+    ensures err { OnErr result (AddsSome list.old.items list.new.items (records body.now)) }
+{
     // The proof takes this law; the call does nothing.
     read_as_spelled();
-    let mut records = Vec::new(alloc);
+    let (items, subfields) = (CAT062, SUBS062);
+    let mut places = NO_PLACES;
     let mut rest = body;
     while !rest.is_empty() {
-        match read_record(rest) {
+        match read_with(rest, &items, &subfields, &mut places) {
             Ok((raw, size)) => {
-                records.push(raw)?;
+                list.push(raw)?;
                 let (_, after) = rest.split_at(size);
                 rest = after;
             }
             Err(fault) => {
                 let offset = offset + (body.len() - rest.len()) as u64;
-                return Ok(BlockRead {
-                    records,
-                    refused: Some(Refused { offset, fault }),
-                });
+                return Ok(Some(Refused { offset, fault }));
             }
         }
     }
-    Ok(BlockRead {
-        records,
-        refused: None,
-    })
+    Ok(None)
 }

@@ -9,7 +9,7 @@ pub mod record;
 pub mod table;
 pub mod track;
 
-pub use body::{BlockRead, LAST_PLACE, NoMemory, Refused, read_block};
+pub use body::{BlockRead, LAST_PLACE, NoMemory, Refused, add_records, read_block};
 pub use reading::read_record;
 pub use record::Raw062;
 pub use table::{CAT062, CATEGORY, SUBS062, tables_hold};

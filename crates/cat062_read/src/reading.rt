@@ -2,6 +2,7 @@
 ghost use Rattle.std.specs.Prelude.{◌≡◌, ◌≤◌, ◌+◌, IfOk, All, length};
 ghost use Rattle.asterix_fields.specs.Spelling.{texts_at};
 ghost use Rattle.asterix_fields.specs.Faults.{fault_of};
+ghost use Rattle.cat062_read.specs.declared.table.TheConstants.{CAT062, SUBS062};
 ghost use Rattle.cat062_read.specs.Contents.{item};
 ghost use Rattle.cat062_read.specs.Records.{IsFront, ReadsSpelled, fault062, reading};
 ghost use Rattle.cat062_read.specs.Tracks.{IsPlaced};
@@ -11,12 +12,12 @@ use crate::record::Raw062;
 use crate::table::{CAT062, SUBS062};
 use asterix_fields::laws::read_as_spelled;
 use asterix_fields::sizes::BLOCK_ROOM;
-use asterix_fields::{ItemFault, Span, walk};
+use asterix_fields::{ItemFault, Span, Subs, Uap, find_items};
 
 // What is read of a record: each field from the octets of the item of its FRN.
 macro_rules! contents {
-    ($bytes:ident, $spans:expr; $($frn:literal => $field:ident by $reader:ident),+ $(,)?) => {
-        Raw062 { $($field: item::$reader(text_of($bytes, &$spans, $frn))),+ }
+    ($bytes:ident, $places:ident; $($frn:literal => $field:ident by $reader:ident),+ $(,)?) => {
+        Raw062 { $($field: item::$reader(text_of($bytes, $places, $frn))),+ }
     };
 }
 
@@ -35,8 +36,33 @@ pub fn read_record(bytes: &[u8]) -> Result<(Raw062, usize), ItemFault>
 {
     // The proof takes this law; the call does nothing.
     read_as_spelled();
-    let found = walk(&CAT062, &SUBS062, bytes)?;
-    let raw = contents!(bytes, found.spans;
+    read_with(bytes, &CAT062, &SUBS062, &mut { NO_PLACES })
+}
+
+/// Where the items of a record stand.
+pub type Places = [Span; 35];
+
+/// The places before any record was read.
+pub const NO_PLACES: Places = [Span { at: 0, len: 0 }; 35];
+
+/// The same with tables that stand in memory, and a list of places, that serve for many records.
+pub fn read_with(
+    bytes: &[u8],
+    items: &Uap<35>,
+    subfields: &Subs<108>,
+    places: &mut Places,
+) -> Result<(Raw062, usize), ItemFault>
+    requires room { length bytes.now ≤ BLOCK_ROOM }
+    requires table { items.now ≡ CAT062 }
+    requires rows { subfields.now ≡ SUBS062 }
+    ensures reading { result ≡ reading bytes.now }
+    ensures within { IfOk result (λ found. found.1 ≤ length bytes.now) }
+    ensures placed { IfOk result (λ found. IsPlaced found.0) }
+{
+    // The proof takes this law; the call does nothing.
+    read_as_spelled();
+    let length = find_items(items, subfields, bytes, places)?;
+    let raw = contents!(bytes, places;
         1 => source by source,
         4 => time by time,
         5 => wgs by wgs,
@@ -52,7 +78,7 @@ pub fn read_record(bytes: &[u8]) -> Result<(Raw062, usize), ItemFault>
         19 => baro by barometric,
         20 => rate by signed,
     );
-    Ok((raw, found.length as usize))
+    Ok((raw, length as usize))
 }
 
 /// The octets of an item, by its FRN; none, where it is absent.

@@ -198,6 +198,20 @@ fn a_body_refused_at_its_second_record(rt: HostRuntime) -> Result<(), Fail> {
     Ok(())
 }
 
+/// Three bodies into one list: the second is refused at its first record.
+#[test]
+fn records_behind_those_of_other_bodies(rt: HostRuntime) -> Result<(), Fail> {
+    let mut list = Vec::new(rt.alloc());
+    assert_eq!(rt; add_records(&mut list, &EASTBOUND, 3)?, None);
+    assert_eq!(rt;
+        add_records(&mut list, &[0x40, 0], 31)?,
+        refused(31, ItemFault::SpareItem(2))
+    );
+    assert_eq!(rt; add_records(&mut list, &WESTBOUND, 36)?, None);
+    assert!(rt; list.as_slice() == [EAST, WEST].as_slice());
+    Ok(())
+}
+
 /// Writes presence octets that name one number, and answers where they end.
 fn name(octets: &mut [u8], at: usize, number: usize) -> usize
     requires room { at + 5 ≤ length octets.old }

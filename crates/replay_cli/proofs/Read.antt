@@ -1,6 +1,7 @@
 -- What was read of a source is its bytes to the end, or as many as are read of it.
 use Rattle.std.proofs.Common.{◌≡◌, ℕ, ◌+◌, ◌-◌, ◌≤◌, Bool, true, false, cond, not, List, [], ◌∷◌, ◌++◌, length, map, is_none, get_or, ◌<◌, take, drop, zero-add, Option, Some, None, refl, ap, ◌∙◌, sym, arith, suc, zero, if◌then◌else◌}
-use Rattle.std.specs.List.{count_by}
+use Rattle.std.specs.List.{count_by, flat_map}
+use Rattle.std.proofs.lemmas.Grind.{flat_map-append}
 use Rattle.std.proofs.Math.Seq.{take-append-add}
 use Rattle.std.proofs.lemmas.List.{take_all, append-nil, append_assoc, take-append-le}
 use Rattle.std.proofs.lemmas.List.Sums.{count_by-le-length, sum_by-append}
@@ -15,10 +16,13 @@ use Rattle.asterix_blocks.specs.declared.blocks.Block.{Block}
 use Rattle.asterix_blocks.specs.declared.blocks.End.TheVariants.{BadLength}
 use Rattle.asterix_blocks.specs.declared.TheConstants.{FEED_ROOM}
 use Rattle.asterix_blocks.specs.declared.blocks.End.{End}
+use Rattle.cat062_read.specs.declared.record.Raw062.{Raw062}
+use Rattle.cat062_read.specs.Tracks.{is_usable}
 use Rattle.replay_cli.specs.declared.input.Gathered.{Gathered}
-use Rattle.replay_cli.specs.Feeds.{ReadsEach, ReadsWhole, ReadsNamed, ReadsText, TextOf, Gathers, content_as, told_blocks, told_count, with_one}
+use Rattle.replay_cli.specs.declared.input.TheConstants.{MOST_USABLE}
+use Rattle.replay_cli.specs.Feeds.{ReadsEach, ReadsWhole, ReadsNamed, ReadsText, TextOf, Gathers, content_as, told_blocks, told_count, with_one, with_usable}
 use Rattle.outside_io.specs.Names.{bytes_of}
-use Rattle.replay_cli.specs.Content.{Content, content, content_by, is_of_category}
+use Rattle.replay_cli.specs.Content.{Content, content, content_by, is_of_category, records_of}
 use Rattle.replay_cli.specs.Run.{Files, feed_of, read_of}
 use Rattle.replay_cli.proofs.Lists.{found_more}
 use Rattle.std.specs.List.{filter_map, find}
@@ -90,6 +94,29 @@ told_after count false = omega arith
 -- one more block, counted by a test
 pub told_more : (test : Block → Bool) (given : List Block) (block : Block) → with_one (told_blocks test given) (test block) ≡ told_blocks test (given ++ block ∷ [])
 told_more test given block = told_after (count_by test given) (test block) ∙ ap told_count (sym (count_more test given block))
+
+-- what each block has, with one block more
+pub more : {X : Type 0} (f : Block → List X) (given : List Block) (block : Block) → flat_map f (given ++ block ∷ []) ≡ flat_map f given ++ f block
+more {X} f given block = flat_map-append f given (block ∷ []) ∙ ap (λ (xs : List X). flat_map f given ++ xs) (append-nil (f block))
+
+usable_more : (given : List Block) (block : Block) → count_by is_usable (flat_map records_of (given ++ block ∷ [])) ≡ count_by is_usable (flat_map records_of given) + count_by is_usable (records_of block)
+usable_more given block = ap (count_by is_usable) (more records_of given block) ∙ sum_by-append (λ (r : Raw062). cond (is_usable r) 1 0) (flat_map records_of given) (records_of block)
+
+told_sum : (m n : ℕ) → told_count (told_count m + n) ≡ told_count (m + n)
+told_sum m n = omega arith
+
+-- the usable records of one more block
+pub told_usable : (given : List Block) (block : Block) → with_usable (told_count (count_by is_usable (flat_map records_of given))) block ≡ told_count (count_by is_usable (flat_map records_of (given ++ block ∷ [])))
+told_usable given block =
+    told_sum (count_by is_usable (flat_map records_of given)) (count_by is_usable (records_of block)) ∙ ap told_count (sym (usable_more given block))
+
+told_few : (n : ℕ) → n ≤ MOST_USABLE → told_count n ≡ n
+told_few n few = omega arith
+
+-- a count that is no greater than a feed can tell is told
+pub usable_is : (gathered : Gathered) (given : List Block) → Gathers gathered given → count_by is_usable gathered.records.items ≤ MOST_USABLE → gathered.usable ≡ count_by is_usable gathered.records.items
+usable_is gathered given gathers few =
+    gathers.usable ∙ ap (λ (raws : List Raw062). told_count (count_by is_usable raws)) (sym gathers.records) ∙ told_few (count_by is_usable gathered.records.items) few
 
 -- there are no more blocks than octets
 few_when : (whole : Bool) (block : Block) (rest : Framing) (last : End) (most : ℕ) → length rest.blocks ≤ most →

@@ -26,11 +26,16 @@ with_one count one = if one then told_count (count + 1) else count
 abbrev pub told_blocks : (Block → Bool) → List Block → ℕ
 told_blocks test blocks = told_count (count_by test blocks)
 
+-- how many of the records are usable, with those of one more block
+abbrev pub with_usable : ℕ → Block → ℕ
+with_usable count block = told_count (count + count_by is_usable (records_of block))
+
 -- this is the content of the blocks
 pub record Gathers (gathered : Gathered) (given : List Block) : Type 0 where
   pub blocks : gathered.blocks ≡ told_blocks is_of_category given
   pub passed : gathered.passed ≡ told_blocks (λ block. not (is_of_category block)) given
   pub records : gathered.records.items ≡ flat_map records_of given
+  pub usable : gathered.usable ≡ told_count (count_by is_usable (flat_map records_of given))
   pub refused : gathered.refused.items ≡ flat_map refusals_of given
 
 -- the blocks that are whole by now were taken, and their content was added

@@ -9,7 +9,7 @@ ghost use Rattle.replay_cli.specs.Feeds.{content_as};
 use crate::input::Gathered;
 use crate::report::{FeedCount, Refusals};
 use asterix_blocks::End;
-use cat062_read::{Raw062, is_usable};
+use cat062_read::Raw062;
 use std::alloc::{AllocError, Global};
 use std::marker::Model;
 
@@ -22,17 +22,22 @@ pub struct Input {
 }
 
 impl Model for Input {
+    ghost use Rattle.std.specs.Prelude.{◌≡◌, count_by};
+    ghost use Rattle.cat062_read.specs.Tracks.{is_usable};
     ghost use Rattle.replay_cli.specs.Content.{Content};
     ghost use Rattle.replay_cli.specs.Feeds.{content_as};
 
     ghost Value = { Content };
 
     ghost view = { λ i. content_as i.gathered i.end };
+
+    ghost invariant = { λ i. i.gathered.usable ≡ count_by is_usable i.gathered.records.items };
 }
 
 impl Input {
     /// What was gathered of a feed that ends so.
     pub fn new(gathered: Gathered, end: End) -> Input
+        requires { gathered.usable ≡ count_by usable gathered.records.items }
         ensures { result ≡ content_as gathered end }
     {
         Input { gathered, end }
@@ -52,13 +57,6 @@ impl Input {
         self.gathered.refused.is_empty() && matches!(self.end, End::Clean)
     }
 
-    /// How many of the records are usable.
-    fn tracks(&self) -> u64
-        ensures { result ≡ count_by usable self.now.records }
-    {
-        self.records().iter().filter(|raw| is_usable(raw)).count() as u64
-    }
-
     /// What a report says of the feed.
     pub fn count(&self, alloc: Global) -> Result<FeedCount, AllocError>
         ensures { IfOk result (λ count. count ≡ feed_count self.now) }
@@ -67,13 +65,14 @@ impl Input {
             blocks,
             passed,
             records,
+            usable,
             refused,
         } = &self.gathered;
         Ok(FeedCount {
             blocks: *blocks,
             passed: *passed,
             records: records.len() as u64,
-            tracks: self.tracks(),
+            tracks: *usable,
             refused: Refusals::printed_of(alloc, refused.as_slice())?,
             refusals: refused.len() as u64,
             end: self.end,

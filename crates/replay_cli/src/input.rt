@@ -1,16 +1,16 @@
 //! Reading a source: a text of at most so many octets, or the content of a feed, in whatever pieces it comes.
-ghost use Rattle.std.specs.Prelude.{◌≡◌, ◌≤◌, ◌++◌, IfOk, OnOk, IsErrOf, All, not, length};
+ghost use Rattle.std.specs.Prelude.{◌≡◌, ◌≤◌, ◌++◌, IfOk, OnOk, IsErrOf, All, count_by, drop, not, length};
 ghost use Rattle.outside_io.specs.Faults.{Rose};
 ghost use Rattle.asterix_blocks.specs.Cutting.{StandsAt};
-ghost use Rattle.cat062_read.specs.Tracks.{IsPlaced};
+ghost use Rattle.cat062_read.specs.Tracks.{IsPlaced, is_usable as usable};
 ghost use Rattle.replay_cli.specs.Content.{is_of_category, records_of, refusals_of};
-ghost use Rattle.replay_cli.specs.Feeds.{AddsBlocks, IsTellable, ReadsText, ReadsWhole, TakesAtMost, with_one};
+ghost use Rattle.replay_cli.specs.Feeds.{AddsBlocks, IsTellable, ReadsText, ReadsWhole, TakesAtMost, with_one, with_usable};
 
 use crate::content::Input;
 use asterix_blocks::{Block, Cutter, FEED_ROOM};
 use asterix_fields::sizes::HEADER_LENGTH;
 use cat062_read::laws::usable_records_are_long;
-use cat062_read::{CATEGORY, Raw062, Refused, read_block};
+use cat062_read::{CATEGORY, Raw062, Refused, add_records, is_usable};
 use outside_io::Source;
 use std::alloc::{AllocError, Global};
 
@@ -43,21 +43,32 @@ impl From<AllocError> for Unread {
 }
 
 /// The content of blocks, each in the order of the feed: how many are of category 062 and how many of others,
-/// their records, and what is refused of them. Counts stop at their last value.
+/// their records and how many of these are usable, and what is refused of them. Counts stop at their last value.
 #[derive(Debug, Drop)]
 pub struct Gathered {
     pub blocks: u64,
     pub passed: u64,
     pub records: Vec<Raw062>,
+    pub usable: u64,
     pub refused: Vec<Refused>,
 }
 
+/// How many of the records from a place on are usable.
+fn usable_from(records: &[Raw062], from: usize) -> u64
+    requires { from ≤ length records.now }
+    ensures { result ≡ count_by usable (drop from records.now) }
+{
+    let (_, rest) = records.split_at(from);
+    rest.iter().filter(|raw| is_usable(raw)).count() as u64
+}
+
 /// Adds the content of a block of category 062; a block of another category is passed over.
-fn add_block(alloc: Global, block: &Block, gathered: &mut Gathered) -> Result<(), AllocError>
+fn add_block(block: &Block, gathered: &mut Gathered) -> Result<(), AllocError>
     requires { StandsAt block.now.offset block.now }
     ensures blocks { OnOk result (gathered.new.blocks ≡ with_one gathered.old.blocks (is_of_category block.now)) }
     ensures passed { OnOk result (gathered.new.passed ≡ with_one gathered.old.passed (not (is_of_category block.now))) }
     ensures records { OnOk result (gathered.new.records.items ≡ gathered.old.records.items ++ records_of block.now) }
+    ensures usable { OnOk result (gathered.new.usable ≡ with_usable gathered.old.usable block.now) }
     ensures refused { OnOk result (gathered.new.refused.items ≡ gathered.old.refused.items ++ refusals_of block.now) }
     ensures placed { OnOk result (All IsPlaced gathered.old.records.items → All IsPlaced gathered.new.records.items) }
 {
@@ -66,9 +77,11 @@ fn add_block(alloc: Global, block: &Block, gathered: &mut Gathered) -> Result<()
         return Ok(());
     }
     let place = block.offset + HEADER_LENGTH as u64;
-    let mut read = read_block(alloc, block.body.as_slice(), place)?;
-    gathered.records.append(&mut read.records)?;
-    if let Some(refused) = read.refused {
+    let before = gathered.records.len();
+    let refused = add_records(&mut gathered.records, block.body.as_slice(), place)?;
+    let usable = usable_from(&gathered.records, before);
+    gathered.usable = gathered.usable.saturating_add(usable);
+    if let Some(refused) = refused {
         gathered.refused.push(refused)?;
     }
     gathered.blocks = gathered.blocks.saturating_add(1);
@@ -76,12 +89,12 @@ fn add_block(alloc: Global, block: &Block, gathered: &mut Gathered) -> Result<()
 }
 
 /// Adds the blocks that are whole by now.
-fn add_blocks(alloc: Global, cutter: &mut Cutter, gathered: &mut Gathered) -> Result<(), AllocError>
+fn add_blocks(cutter: &mut Cutter, gathered: &mut Gathered) -> Result<(), AllocError>
     ensures added { OnOk result (AddsBlocks cutter.old cutter.new gathered.old gathered.new) }
     ensures placed { OnOk result (All IsPlaced gathered.old.records.items → All IsPlaced gathered.new.records.items) }
 {
     while let Some(block) = cutter.next()? {
-        add_block(alloc, &block, gathered)?;
+        add_block(&block, gathered)?;
     }
     Ok(())
 }
@@ -102,6 +115,7 @@ pub fn read_whole<S: Source>(alloc: Global, source: &mut S) -> Result<Input, Unr
         blocks: 0,
         passed: 0,
         records: Vec::new(alloc),
+        usable: 0,
         refused: Vec::new(alloc),
     };
     let mut piece = [0; PIECE];
@@ -115,7 +129,7 @@ pub fn read_whole<S: Source>(alloc: Global, source: &mut S) -> Result<Input, Unr
             break;
         }
         cutter.feed(&piece[..count])?;
-        add_blocks(alloc, &mut cutter, &mut gathered)?;
+        add_blocks(&mut cutter, &mut gathered)?;
         room -= count as u64;
     }
     Ok(Input::new(gathered, cutter.finish()))

@@ -1,4 +1,4 @@
-use Rattle.std.proofs.Common.{sym}
+use Rattle.std.proofs.Common.{sym, take}
 use Rattle.std.proofs.lemmas.Result.{err_from_is_err_and}
 use Rattle.asterix_fields.proofs.Steps.{compound_stop, compound_next}
 use Rattle.asterix_fields.proofs.items.compound_length.Goals as goal
@@ -11,4 +11,4 @@ returns-in_err-primary-clause-value c =
 pub returns-clause-value : goal.returns-clause-value
 returns-clause-value c =
     let next = compound_next c.args.frn c.args.rows.now c.args.bytes.now c.in_ok-primary.primary (sym c.in_ok-primary.ensures.value) in
-    rw next (rw (← c.split_at.ensures.front, ← c.split_at.ensures.back) c.subfields_end.ensures.value)
+    rw next (c.subfields_end.ensures.value (take c.in_ok-primary.primary c.args.bytes.now) (rw (← c.split_at.ensures.front) c.bits_of.ensures))

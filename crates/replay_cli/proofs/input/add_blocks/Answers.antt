@@ -1,17 +1,11 @@
-use Rattle.std.proofs.Common.{◌≡◌, ◌++◌, not, List, [], ◌∷◌, ap, sym, ◌∙◌}
-use Rattle.std.specs.List.{flat_map}
-use Rattle.std.proofs.lemmas.Grind.{flat_map-append}
-use Rattle.std.proofs.lemmas.List.{append-nil}
+use Rattle.std.proofs.Common.{◌++◌, not, List, [], ◌∷◌, ap, sym, ◌∙◌}
 use Rattle.asterix_blocks.specs.declared.blocks.Block.{Block}
 use Rattle.cat062_read.specs.declared.body.Refused.{Refused}
 use Rattle.cat062_read.specs.declared.record.Raw062.{Raw062}
 use Rattle.replay_cli.specs.Content.{is_of_category, records_of, refusals_of}
-use Rattle.replay_cli.specs.Feeds.{with_one}
-use Rattle.replay_cli.proofs.Read.{told_more}
+use Rattle.replay_cli.specs.Feeds.{with_one, with_usable}
+use Rattle.replay_cli.proofs.Read.{more, told_more, told_usable}
 use Rattle.replay_cli.proofs.input.add_blocks.Goals as goal
-
-more : {X : Type 0} (f : Block → List X) (given : List Block) (block : Block) → flat_map f (given ++ block ∷ []) ≡ flat_map f given ++ f block
-more {X} f given block = flat_map-append f given (block ∷ []) ∙ ap (λ (xs : List X). flat_map f given ++ xs) (append-nil (f block))
 
 pub loop-block-preserved : goal.loop-block-preserved
 loop-block-preserved c =
@@ -26,6 +20,7 @@ loop-block-preserved c =
               blocks = c.in_ok-add_block.ensures.blocks ∙ ap (λ n. with_one n (is_of_category block)) t.2.blocks ∙ told_more is_of_category t.0 block;
               passed = c.in_ok-add_block.ensures.passed ∙ ap (λ n. with_one n (not (is_of_category block))) t.2.passed ∙ told_more (λ b. not (is_of_category b)) t.0 block;
               records = c.in_ok-add_block.ensures.records ∙ ap (λ (rs : List Raw062). rs ++ records_of block) t.2.records ∙ sym (more records_of t.0 block);
+              usable = c.in_ok-add_block.ensures.usable ∙ ap (λ n. with_usable n block) t.2.usable ∙ told_usable t.0 block;
               refused = c.in_ok-add_block.ensures.refused ∙ ap (λ (rs : List Refused). rs ++ refusals_of block) t.2.refused ∙ sym (more refusals_of t.0 block);
             },
           );

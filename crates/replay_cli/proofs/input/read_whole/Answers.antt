@@ -7,7 +7,7 @@ use Rattle.asterix_blocks.specs.declared.TheConstants.{FEED_ROOM}
 use Rattle.replay_cli.specs.Feeds.{Gathers}
 use Rattle.replay_cli.specs.Content.{Content}
 use Rattle.replay_cli.specs.Feeds.{content_as}
-use Rattle.replay_cli.proofs.Read.{read_to_end, read_to_room, read_whatever, read_of_fed, read_of_bad, at_end_before, consumes_nothing, consumes_more}
+use Rattle.replay_cli.proofs.Read.{read_to_end, read_to_room, read_whatever, read_of_fed, read_of_bad, at_end_before, consumes_nothing, consumes_more, usable_is}
 use Rattle.replay_cli.proofs.Usable.{few_of_fed}
 use Rattle.replay_cli.proofs.input.read_whole.Goals as goal
 use Rattle.replay_cli.proofs.input.read_whole.Goals.{then-loop-room-test+else-not-has_bad_length, else-loop-room-test, then-loop-room-test+then-not-has_bad_length+in-Ok+then-count-eq0}
@@ -18,7 +18,7 @@ nothing_framed = refl
 
 pub loop-room-init : goal.loop-room-init
 loop-room-init g c = record {
-  read = ([], consumes_nothing (g.S.Source.left c.args.source.now), rw nothing_framed c.in_ok-cutter.ensures.start, record { blocks = rw nothing_framed refl; passed = rw nothing_framed refl; records = rw nothing_framed c.new-2.ensures.items; refused = rw nothing_framed c.new-3.ensures.items }, refl);
+  read = ([], consumes_nothing (g.S.Source.left c.args.source.now), rw nothing_framed c.in_ok-cutter.ensures.start, record { blocks = rw nothing_framed refl; passed = rw nothing_framed refl; usable = rw nothing_framed refl; records = rw nothing_framed c.new-2.ensures.items; refused = rw nothing_framed c.new-3.ensures.items }, refl);
   piece = refl;
   within = omega arith;
   placed = λ k d below. absurd (omega (arith, ap length c.new-2.ensures.items));
@@ -55,6 +55,13 @@ loop-room-preserved g c =
       placed = c.in_ok-add_blocks.ensures.placed c.loop-room.invariant.placed;
       kept = omega arith;
     }
+
+pub new-requires-4 : goal.new-requires-4
+new-requires-4 g c =
+    let r = c.loop-room.invariant.read in
+    let whole = r.4 in
+    let within : length r.0 ≤ FEED_ROOM = omega arith in
+    usable_is c.loop-room.gathered (blocks r.0) r.3 (few_of_fed c.usable_records_are_long.ensures r.0 c.loop-room.gathered.records.items within r.3.records)
 
 pub returns-clause-told : goal.returns-clause-told
 returns-clause-told g c =

@@ -1,7 +1,7 @@
 use Rattle.std.proofs.lemmas.Result.{err_from_is_err_and}
 use Rattle.asterix_fields.proofs.RecordLaws.{record_takes, spans_within, only_found, none_refused}
 use Rattle.asterix_fields.proofs.FirstFaultLaws.{record_breaks}
-use Rattle.asterix_fields.proofs.walking.walk.Goals as goal
+use Rattle.asterix_fields.proofs.walking.find_items.Goals as goal
 
 pub returns-in_err-end-clause-only : goal.returns-in_err-end-clause-only
 returns-in_err-end-clause-only g c = λ text rest items spelled same.
