@@ -5,6 +5,7 @@ mod Highest
 mod KeyOrder
 mod Newest
 mod Orders
+mod Places
 mod Proper
 mod Puts
 mod Ranked

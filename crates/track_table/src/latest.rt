@@ -10,6 +10,7 @@ ghost use Rattle.track_table.specs.KeyOrder.{key_eq};
 ghost use Rattle.track_table.specs.Tables.{is_recent, is_row};
 
 use crate::NoMemory;
+use crate::order::{places_of_rows, rows_at_places};
 use crate::rows::Rows;
 use crate::table::Put;
 use indexmap::IndexMap;
@@ -41,9 +42,8 @@ impl Latest {
     pub fn new(alloc: Global) -> Latest
         ensures { result ≡ [] }
     {
-        Latest {
-            records: IndexMap::new(alloc),
-        }
+        let records = IndexMap::new(alloc);
+        Latest { records }
     }
 
     /// Writes a record over the one kept for its track, where that is outranked, and says what becomes of it;
@@ -77,10 +77,17 @@ impl Latest {
         ensures rows { IfOk result (λ rows. rows ≡ filter (is_row time timeout) (values_of self.now)) }
         ensures memory { OnErr result (filter (is_row time timeout) (values_of self.now) ≢ []) }
     {
-        let mut rows = rows_among(alloc, &self.records, time, timeout)?;
-        rows.sort_unstable_by_key(|r| r.track.key);
-        Ok(Rows::new(rows))
+        let mut places = places_of_rows(alloc, &self.records, time, timeout)?;
+        places.sort_unstable_by_key(|place| place.number);
+        rows_at_places(alloc, &self.records, places.as_slice())
     }
+}
+
+/// A record is a row at a time: it was told at most the timeout before, and isn't the last of its track.
+pub fn is_row(row: &Stamped, time: i64, timeout: i64) -> bool
+    ensures { result ≡ is_row time timeout row.now }
+{
+    !row.track.ended && is_recent(row, time, timeout)
 }
 
 /// A record was told at most the timeout before a time.
@@ -102,23 +109,4 @@ fn put_over(records: &mut IndexMap<TrackKey, Stamped>, s: &Stamped) -> Option<Pu
         return Some(Put::Kept);
     }
     Some(Put::Superseded(*r))
-}
-
-/// The rows at a time, in any order.
-fn rows_among(
-    alloc: Global,
-    records: &IndexMap<TrackKey, Stamped>,
-    time: i64,
-    timeout: i64,
-) -> Result<Vec<Stamped>, NoMemory>
-    ensures rows { IfOk result (λ rows. rows.items ≡ filter (is_row time timeout) (values records.now)) }
-    ensures memory { OnErr result (filter (is_row time timeout) (values records.now) ≢ []) }
-{
-    let mut rows = Vec::new(alloc);
-    for row in records.values() {
-        if !row.track.ended && is_recent(row, time, timeout) {
-            rows.push(*row)?;
-        }
-    }
-    Ok(rows)
 }

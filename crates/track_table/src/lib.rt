@@ -4,6 +4,7 @@
 mod clock;
 mod latest;
 pub mod laws;
+mod order;
 pub mod rows;
 pub mod table;
 
