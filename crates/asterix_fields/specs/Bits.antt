@@ -1,11 +1,11 @@
 -- Presence octets as one number: at most five octets name 35 numbers, and the bit of worth 2^(35 - k) says whether they name k.
-use Rattle.std.specs.Prelude.{◌≡◌, ℕ, ◌+◌, ◌-◌, ◌/◌, ◌%◌, ◌^◌, ◌<◌, ◌≤◌, ◌==◌, Bool, List, length, drop, Result}
+use Rattle.std.specs.Prelude.{◌≡◌, ℕ, ◌+◌, ◌-◌, ◌/◌, ◌%◌, ◌^◌, ◌<◌, ◌≤◌, ◌==◌, Bool, List, length, drop, Option, Result}
 use Rattle.asterix_fields.specs.declared.sizes.TheConstants.{MOST_ITEMS, PRESENCE_ROOM}
 use Rattle.asterix_fields.specs.declared.tables.Form.{Form}
 use Rattle.asterix_fields.specs.declared.places.Span.{Span}
 use Rattle.asterix_fields.specs.declared.fault.ItemFault.{ItemFault}
 use Rattle.asterix_fields.specs.Spelling.{is_named}
-use Rattle.asterix_fields.specs.Faults.{Fills, end_of, item_at, simple_at, spans_at}
+use Rattle.asterix_fields.specs.Faults.{Fills, end_of, first_named, item_at, no_more, simple_at, spans_at}
 
 abbrev pub has_bit : ℕ → ℕ → Bool
 has_bit bits number = bits / 2 ^ (MOST_ITEMS - number) % 2 == 1
@@ -21,6 +21,19 @@ pub record TellsBehind (from bits : ℕ) (octets : List ℕ) : Type 0 where
   pub few : length octets ≤ PRESENCE_ROOM
   pub below : bits < 2 ^ MOST_ITEMS
   pub each : (k : ℕ) → 1 ≤ k → k ≤ MOST_ITEMS → has_bit bits k ≡ is_named octets (from + k)
+
+-- a number that presence octets can name, past so many rows
+pub record IsPast (rows number : ℕ) : Type 0 where
+  pub past : rows < number
+  pub few : number ≤ MOST_ITEMS
+
+-- the first number past so many rows that the bits name: whatever presence octets have these bits
+abbrev pub FirstTold : ℕ → ℕ → Option ℕ → Type 0
+FirstTold bits rows first = (octets : List ℕ) → Tells bits octets → first ≡ first_named octets (MOST_ITEMS - rows) (rows + 1)
+
+-- the same of the items past a table of so many, of which the first named one is spare
+abbrev pub NoMoreTold : ℕ → ℕ → Result ℕ ItemFault → Type 0
+NoMoreTold bits items answer = (fspec : List ℕ) → Tells bits fspec → answer ≡ no_more (first_named fspec (MOST_ITEMS - items) (items + 1))
 
 -- the places of the items that the bits name, the first at `start`, and where they end, or the first fault: whatever FSPEC has these bits
 abbrev pub FillsTold : List Form → List Form → ℕ → ℕ → List ℕ → List Span → Result ℕ ItemFault → Type 0

@@ -1,5 +1,5 @@
 -- Which tables a record can be read by (this project's profile: at most 35 items, as five FSPEC octets name).
-use Rattle.std.specs.Prelude.{ℕ, ◌+◌, Bool, true, false, ◌&&◌, IsTrue, List, length, take, drop, nat_le}
+use Rattle.std.specs.Prelude.{ℕ, ◌+◌, ◌<◌, Bool, true, false, ◌&&◌, IsTrue, List, length, take, drop, nat_le}
 use Rattle.std.specs.List.{list_all}
 use Rattle.asterix_fields.specs.declared.sizes.TheConstants.{MOST_ITEMS}
 use Rattle.asterix_fields.specs.declared.tables.Form.{Form}
@@ -26,6 +26,11 @@ is_row (Compound first count) = false
 -- a compound's rows in the subfield table
 abbrev pub rows_of : List Form → ℕ → ℕ → List Form
 rows_of subs first count = take count (drop first subs)
+
+-- rows such as a compound can have: at most 255, each one fixed or repeated
+pub record AreRows (rows : List Form) : Type 0 where
+  pub few : length rows < 256
+  pub each : IsTrue (list_all is_row rows)
 
 -- a compound's rows are all there, each one fixed or repeated
 abbrev pub has_rows : List Form → Form → Bool

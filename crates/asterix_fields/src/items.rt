@@ -1,10 +1,9 @@
 //! How many octets an item has, by its form.
 
-ghost use Rattle.std.specs.Prelude.{◌≡◌, ◌≤◌, ◌<◌, ◌+◌, ℕ, IsTrue, IfOk, List, length, drop};
-ghost use Rattle.std.specs.List.{list_all};
-ghost use Rattle.asterix_fields.specs.Tables.{has_length, has_rows, is_row};
+ghost use Rattle.std.specs.Prelude.{◌≡◌, ◌≤◌, ◌+◌, IsTrue, IfOk, length, drop};
+ghost use Rattle.asterix_fields.specs.Tables.{AreRows, has_length, has_rows, is_row};
 ghost use Rattle.asterix_fields.specs.Bits.{EndsTold};
-ghost use Rattle.asterix_fields.specs.Faults.{so_many, extended_at, simple_at, spans_at, end_of, compound_at, item_at};
+ghost use Rattle.asterix_fields.specs.Faults.{so_many, extended_at, simple_at, compound_at, item_at};
 
 use crate::fault::ItemFault;
 use crate::presence::{bits_of, first_past, primary_length};
@@ -111,8 +110,7 @@ fn extended_length(frn: u8, size: u8, bytes: &[u8]) -> Result<usize, ItemFault>
 
 /// The primary octets, and the subfields that they name.
 fn compound_length(frn: u8, rows: &[Form], bytes: &[u8]) -> Result<usize, ItemFault>
-    requires fixed_or_repeated { IsTrue (list_all is_row rows.now) }
-    requires few { length rows.now < 256 }
+    requires { AreRows rows.now }
     ensures value { result ≡ compound_at frn rows.now bytes.now }
     ensures within { IfOk result (λ size. size ≤ length bytes.now) }
 {
@@ -129,8 +127,7 @@ fn subfields_end(
     start: usize,
     bytes: &[u8],
 ) -> Result<usize, ItemFault>
-    requires fixed_or_repeated { IsTrue (list_all is_row rows.now) }
-    requires few { length rows.now < 256 }
+    requires rows { AreRows rows.now }
     requires inside { start ≤ length bytes.now }
     ensures value { EndsTold frn rows.now bits start bytes.now result }
     ensures within { IfOk result (λ end. end ≤ length bytes.now) }

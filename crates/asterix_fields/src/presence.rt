@@ -1,9 +1,9 @@
 //! Presence octets: the FSPEC of a record, and the primary subfield of a compound item.
 
-ghost use Rattle.std.specs.Prelude.{◌≡◌, ◌≤◌, ◌<◌, ◌+◌, ◌-◌, ◌/◌, ◌%◌, ◌^◌, ℕ, List, length, slice_index, IfOk, IfSome};
+ghost use Rattle.std.specs.Prelude.{◌≡◌, ◌≤◌, ◌<◌, ◌+◌, ◌/◌, ◌%◌, ◌^◌, ℕ, List, length, slice_index, IfOk, IfSome};
 ghost use Rattle.asterix_fields.specs.Spelling.{is_named};
 ghost use Rattle.asterix_fields.specs.Faults.{first_named, fspec_at, primary_at, spare_subfield};
-ghost use Rattle.asterix_fields.specs.Bits.{Tells, TellsBehind};
+ghost use Rattle.asterix_fields.specs.Bits.{FirstTold, IsPast, Tells, TellsBehind};
 
 use crate::fault::ItemFault;
 use crate::sizes::{MOST_ITEMS, NO_SUBFIELD, PRESENCE_ROOM};
@@ -52,9 +52,8 @@ pub fn behind_first(bits: u64) -> u64
 /// The first number past so many rows of which the bit is set.
 pub fn first_past(bits: u64, rows: usize) -> Option<u8>
     requires { rows ≤ MOST_ITEMS }
-    ensures value { (octets : List ℕ) → Tells bits octets → result ≡ first_named octets (MOST_ITEMS - rows) (rows + 1) }
-    ensures past { IfSome result (λ number. rows < number) }
-    ensures few { IfSome result (λ number. number ≤ MOST_ITEMS) }
+    ensures value { FirstTold bits rows result }
+    ensures past { IfSome result (IsPast rows) }
 {
     let past = low_bits(bits, MOST_ITEMS - rows);
     if past == 0 {

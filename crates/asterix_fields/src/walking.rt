@@ -1,10 +1,10 @@
 //! Where the items of a record stand.
 
-ghost use Rattle.std.specs.Prelude.{◌≡◌, ◌≤◌, ◌+◌, ◌-◌, ℕ, IsTrue, IfOk, IfErr, All, List, length, drop};
+ghost use Rattle.std.specs.Prelude.{◌≡◌, ◌≤◌, ◌+◌, IfOk, IfErr, All, length};
 ghost use Rattle.asterix_fields.specs.Tables.{WellFormed};
 ghost use Rattle.asterix_fields.specs.Spelling.{IsWalk};
-ghost use Rattle.asterix_fields.specs.Bits.{FillsTold, Tells};
-ghost use Rattle.asterix_fields.specs.Faults.{Fills, fault, fault_of, item_at, no_more, first_named, record_at, spans_at};
+ghost use Rattle.asterix_fields.specs.Bits.{FillsTold, NoMoreTold};
+ghost use Rattle.asterix_fields.specs.Faults.{Fills, fault, fault_of, record_at};
 ghost use Rattle.asterix_fields.specs.FirstFault.{IsFirstFault};
 ghost use Rattle.asterix_fields.specs.Reading.{FindsSpelled, found_in, found_of};
 
@@ -84,7 +84,7 @@ fn read_record<const N: usize>(
 /// Refuses a named item past the end of a table of so many items.
 fn past_the_table(bits: u64, items: usize) -> Result<usize, ItemFault>
     requires { items ≤ MOST_ITEMS }
-    ensures { (fspec : List ℕ) → Tells bits fspec → result ≡ no_more (first_named fspec (MOST_ITEMS - items) (items + 1)) }
+    ensures { NoMoreTold bits items result }
 {
     match first_past(bits, items) {
         Some(frn) => Err(ItemFault::SpareItem(frn)),
@@ -107,23 +107,18 @@ fn item_spans<const N: usize>(
     ensures value { FillsTold uap.now subs.now bits start bytes.now spans.new result }
     ensures within { IfOk result (λ end. end ≤ length bytes.now) }
 {
-    let mut at = start;
-    let mut left = bits;
+    let (mut end, mut left) = (start, bits);
     for (index, form) in uap.iter().enumerate() {
+        let at = end as u32;
         if names_first(left) {
-            let size = item_length((index + 1) as u8, *form, subs, bytes, at)?;
-            spans[index] = Span {
-                at: at as u32,
-                len: size as u32,
-            };
-            at += size;
+            let size = item_length((index + 1) as u8, *form, subs, bytes, end)?;
+            let len = size as u32;
+            spans[index] = Span { at, len };
+            end += size;
         } else {
-            spans[index] = Span {
-                at: at as u32,
-                len: 0,
-            };
+            spans[index] = Span { at, len: 0 };
         }
         left = behind_first(left);
     }
-    Ok(at)
+    Ok(end)
 }

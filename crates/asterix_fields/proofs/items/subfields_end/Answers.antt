@@ -30,7 +30,7 @@ returns-in-None-clause-value c = λ presence tells.
 pub loop-number-preserved : goal.loop-number-preserved
 loop-number-preserved c = record {
   inside = c.in_ok-at-in-Some-get.ensures.within;
-  few = c.in-Some.ensures.few;
+  few = c.in-Some.ensures.past.few;
   same = λ presence tells.
       let at = c.loop-number.at in
       let size = c.in_ok-at-in-Some-get.field-0 in

@@ -18,7 +18,7 @@ item_length-requires-clause-inside g c = c.loop-index.invariant.inside
 pub returns-in_err-size-clause-value : goal.returns-in_err-size-clause-value
 returns-in_err-size-clause-value g c = λ fspec tells.
     let p = err_from_is_err_and c.from_residual.result c.from_residual.ensures.1 in
-    let at = c.loop-index.at in
+    let at = c.loop-index.end in
     let rest = drop at c.args.bytes.now in
     let within : c.loop-index.index < length c.args.uap.now = let e = c.told-uap in let h = c.loop-index-test.true in omega arith in
     let here : is_named fspec (c.loop-index.index + 1) ≡ true = sym (c.names_first.ensures c.loop-index.index fspec (c.loop-index.invariant.tells fspec tells)) ∙ c.if-names_first.true in
@@ -26,18 +26,18 @@ returns-in_err-size-clause-value g c = λ fspec tells.
     rw (p.1, p.2) (sym (items_start c.args.subs.now fspec c.args.uap.now c.args.spans.now c.args.start (drop c.args.start c.args.bytes.now)) ∙ sym (c.loop-index.invariant.same fspec tells)
     ∙ items_stop c.args.subs.now fspec c.args.uap.now c.loop-index.spans c.loop-index.index at rest c.in_err-size.field-0.0 within stopped)
 
-pub overflow_cast-spans-else-names_first : goal.overflow_cast-spans-else-names_first
-overflow_cast-spans-else-names_first g c = let inside = c.loop-index.invariant.inside in let room = c.requires.room in omega arith
+pub overflow_cast-at : goal.overflow_cast-at
+overflow_cast-at g c = let inside = c.loop-index.invariant.inside in let room = c.requires.room in omega arith
 
 pub loop-index-preserved : goal.loop-index-preserved
 loop-index-preserved g c =
     let within : c.loop-index.index < length c.args.uap.now = let e = c.told-uap in let h = c.loop-index-test.true in omega arith in
-    let at = c.loop-index.at in
+    let at = c.loop-index.end in
     let rest = drop at c.args.bytes.now in
     elim c.if-names_first.branch [
       | then-names_first+in_ok-size w ↦
           let size = w.in_ok-size.size in
-          rw (w.spans-is, w.at-is) (record {
+          rw (w.spans-is, w.end-is) (record {
             inside = w.in_ok-size.ensures.within;
             whole = length-set c.loop-index.spans c.loop-index.index _ ∙ c.loop-index.invariant.whole;
             same = λ fspec tells.
@@ -48,7 +48,7 @@ loop-index-preserved g c =
             tells = λ fspec tells. c.behind_first-left.ensures c.loop-index.index fspec (c.loop-index.invariant.tells fspec tells);
           })
       | else-names_first w ↦
-          rw (w.spans-is, w.at-is) (record {
+          rw (w.spans-is, w.end-is) (record {
             inside = c.loop-index.invariant.inside;
             whole = length-set c.loop-index.spans c.loop-index.index _ ∙ c.loop-index.invariant.whole;
             same = λ fspec tells.
@@ -64,9 +64,9 @@ loop-index-preserved g c =
 
 pub returns-clause-value : goal.returns-clause-value
 returns-clause-value g c = λ fspec tells.
-    let rest = drop c.loop-index.at c.args.bytes.now in
+    let rest = drop c.loop-index.end c.args.bytes.now in
     sym (items_start c.args.subs.now fspec c.args.uap.now c.args.spans.now c.args.start (drop c.args.start c.args.bytes.now)) ∙ sym (c.loop-index.invariant.same fspec tells)
-    ∙ items_done c.args.subs.now fspec c.args.uap.now c.loop-index.spans c.loop-index.index c.loop-index.at rest (let e = c.told-uap in let h = c.loop-index-test.false in omega arith) c.loop-index.invariant.whole
+    ∙ items_done c.args.subs.now fspec c.args.uap.now c.loop-index.spans c.loop-index.index c.loop-index.end rest (let e = c.told-uap in let h = c.loop-index-test.false in omega arith) c.loop-index.invariant.whole
 
 pub returns-clause-within : goal.returns-clause-within
 returns-clause-within g c = c.loop-index.invariant.inside

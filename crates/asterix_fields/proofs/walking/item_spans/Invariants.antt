@@ -6,9 +6,9 @@ use Rattle.asterix_fields.proofs.walking.item_spans.Given as goal
 
 abbrev pub invariant-loop-index : goal.invariant-loop-index
 invariant-loop-index g l = record {
-  inside : l.at ≤ length l.bytes;
+  inside : l.end ≤ length l.bytes;
   whole : length l.spans ≡ length l.uap;
   same : (fspec : List ℕ) → Tells l.bits fspec
-      → items_from l.subs fspec l.uap l.spans l.index l.at (drop l.at l.bytes) ≡ items_from l.subs fspec l.uap l.initial.spans 0 l.start (drop l.start l.bytes);
+      → items_from l.subs fspec l.uap l.spans l.index l.end (drop l.end l.bytes) ≡ items_from l.subs fspec l.uap l.initial.spans 0 l.start (drop l.start l.bytes);
   tells : (fspec : List ℕ) → Tells l.bits fspec → TellsBehind l.index l.left fspec;
 }
