@@ -1,5 +1,5 @@
 -- A body's records and its refusal, where reading stops, and where it goes on.
-use Rattle.std.proofs.Common.{◌≡◌, ◌≢◌, ◌==◌, true, false, ℕ, zero, suc, ◌+◌, ◌-◌, ◌<◌, ◌≤◌, List, [], ◌∷◌, ◌++◌, length, drop, Result, Ok, Err, OnErr, None, Some, refl, ap, sym, eqb-true, ◌∙◌, arith, append_assoc, length-append, length-drop}
+use Rattle.std.proofs.Common.{◌≡◌, ◌≢◌, ◌==◌, true, false, ℕ, zero, suc, ◌+◌, ◌-◌, ◌<◌, ◌≤◌, List, [], ◌∷◌, ◌++◌, length, drop, Result, Ok, Err, OnErr, None, Some, refl, ap, sym, eqb-true, ◌∙◌, arith, append_assoc, length-drop}
 use Rattle.std.proofs.lemmas.List.{append-nil}
 use Rattle.std.specs.List.{All}
 use Rattle.std.proofs.lemmas.List.Elements.{All-append, All-from_recursion}
@@ -8,7 +8,7 @@ use Rattle.asterix_fields.specs.Reading.{AllReadAsSpelled}
 use Rattle.cat062_read.specs.declared.record.Raw062.{Raw062}
 use Rattle.cat062_read.specs.Records.{reading, records, left_of, refused_at, refusal, refused_from}
 use Rattle.cat062_read.specs.Tracks.{IsPlaced}
-use Rattle.cat062_read.proofs.Readings.{read_end, read_more, nothing_read, fault_read, size_some}
+use Rattle.cat062_read.proofs.Readings.{what_is_read, read_end, read_more, nothing_read, fault_read, size_some}
 
 refused_some : (rest : List ℕ) (size offset : ℕ) (f : ItemFault) → 0 < length rest → reading rest ≡ Err f
     → refused_from offset (refused_at size rest) ≡ Some (record { offset = offset + (size - length rest); fault = f })
@@ -57,12 +57,13 @@ goes_on law body rest done raw size same_records same some e =
       fewer = omega arith;
     }
 
--- a body of which a record is read has records
-pub goes_on-some : (law : AllReadAsSpelled) (body rest : List ℕ) (done : List Raw062) (raw : Raw062) (size : ℕ) → done ++ records rest ≡ records body → left_of rest ≡ left_of body
-    → 0 < length rest → reading rest ≡ Ok (raw, size) → records body ≢ []
-goes_on-some law body rest done raw size same_records same some e = λ none.
-    let on = goes_on law body rest done raw size same_records same some e in
-    absurd (omega (arith, ap length (on.same_records ∙ none), length-append (done ++ raw ∷ []) (records (drop size rest)), length-append done (raw ∷ [])))
+-- octets of which a record is read have records
+pub read_some : (law : AllReadAsSpelled) (rest : List ℕ) (raw : Raw062) (size : ℕ) → reading rest ≡ Ok (raw, size) → records rest ≢ []
+read_some law rest raw size e = λ none. absurd (omega (arith, ap length (sym (read_more law rest (raw, size) e).0 ∙ none)))
+
+-- a record that is read ends within the octets
+pub read_within : (law : AllReadAsSpelled) (rest : List ℕ) (raw : Raw062) (size : ℕ) → reading rest ≡ Ok (raw, size) → size ≤ length rest
+read_within law rest raw size e = (what_is_read law rest (raw, size) e).inside
 
 -- what holds whatever was answered
 pub on_err : {X E P : Type 0} (r : Result X E) → P → OnErr r P

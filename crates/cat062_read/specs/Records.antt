@@ -1,12 +1,14 @@
 -- The records of a body, and what is refused behind them (ASTERIX part 9; what is read of a record is this project's profile).
-use Rattle.std.specs.Prelude.{◌≡◌, ℕ, zero, suc, ◌+◌, ◌-◌, List, [], ◌∷◌, ◌++◌, ◌≤◌, length, take, drop, map, Option, Some, None, Result, Ok, Err}
+use Rattle.std.specs.Prelude.{◌≡◌, ◌≢◌, ℕ, zero, suc, ◌+◌, ◌-◌, List, [], ◌∷◌, ◌++◌, ◌≤◌, length, take, drop, map, Option, Some, None, Result, Ok, Err}
 use Rattle.std.specs.Option.{option_map}
 use Rattle.asterix_fields.specs.declared.fault.ItemFault.{ItemFault}
+use Rattle.asterix_fields.specs.declared.sizes.TheConstants.{BLOCK_ROOM}
 use Rattle.asterix_fields.specs.Spelling.{Spells, joined, texts_at}
 use Rattle.asterix_fields.specs.Faults.{◌>>=◌, record_at, fault}
 use Rattle.asterix_fields.specs.FirstFault.{IsFirstFault}
 use Rattle.cat062_read.specs.declared.table.TheConstants.{CAT062, SUBS062}
 use Rattle.cat062_read.specs.declared.record.Raw062.{Raw062}
+use Rattle.cat062_read.specs.declared.body.TheConstants.{LAST_PLACE}
 use Rattle.cat062_read.specs.declared.body.Refused.{Refused}
 use Rattle.cat062_read.specs.Contents.{contents}
 
@@ -98,6 +100,15 @@ abbrev pub HasOneReading : List ℕ → Type 0
 HasOneReading body = (texts : List (List ℕ)) (items : List (List (List ℕ))) (rest : List ℕ) → IsRead body texts items rest
     → (records body ≡ map contents items) × IsRefusal rest (length (joined texts)) (refusal body)
 
--- some of these records, from the first on, were added to a list
-abbrev pub AddsSome : List Raw062 → List Raw062 → List Raw062 → Type 0
-AddsSome old new all = (front rest : List Raw062) × (all ≡ front ++ rest) × (new ≡ old ++ front)
+-- a body may stand at this place in a feed: it is no longer than a block can be, and begins no later than a body may
+pub record IsBodyAt (body : List ℕ) (offset : ℕ) : Type 0 where
+  pub room : length body ≤ BLOCK_ROOM
+  pub early : offset ≤ LAST_PLACE
+
+-- some of these records, from the first on, were added to a list, but not all of them
+pub record AddsSome (old new all : List Raw062) : Type 0 where
+  pub front : List Raw062
+  pub rest : List Raw062
+  pub whole : all ≡ front ++ rest
+  pub added : new ≡ old ++ front
+  pub not_all : rest ≢ []

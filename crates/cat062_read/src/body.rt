@@ -1,11 +1,10 @@
 //! The records of a block's body.
 ghost use Rattle.std.specs.Prelude.{◌≡◌, ◌≢◌, ◌≤◌, ◌++◌, [], IfOk, OnErr, OnOk, All, length};
-ghost use Rattle.cat062_read.specs.Records.{AddsSome, records, refusal, refused_from};
+ghost use Rattle.cat062_read.specs.Records.{AddsSome, IsBodyAt, records, refusal, refused_from};
 ghost use Rattle.cat062_read.specs.Tracks.{IsPlaced};
 
-use crate::reading::{NO_PLACES, read_with};
+use crate::reading::Reader;
 use crate::record::Raw062;
-use crate::table::{CAT062, SUBS062};
 use asterix_fields::ItemFault;
 use asterix_fields::laws::read_as_spelled;
 use asterix_fields::sizes::BLOCK_ROOM;
@@ -48,27 +47,24 @@ pub fn read_block(alloc: Global, body: &[u8], offset: u64) -> Result<BlockRead, 
 }
 
 /// Reads the same behind the records that a list has, and answers what is refused. Where memory is wanting, the
-/// list has some of the body's records behind its own.
+/// list has some of the body's records behind its own, but not all.
 pub fn add_records(
     list: &mut Vec<Raw062>,
     body: &[u8],
     offset: u64,
 ) -> Result<Option<Refused>, NoMemory>
-    requires room { length body.now ≤ BLOCK_ROOM }
-    requires early { offset ≤ LAST_PLACE }
+    requires { IsBodyAt body.now offset }
     ensures records { OnOk result (list.new.items ≡ list.old.items ++ records body.now) }
     ensures refused { IfOk result (λ refused. refused ≡ refused_from offset (refusal body.now)) }
     ensures placed { OnOk result (All IsPlaced list.old.items → All IsPlaced list.new.items) }
-    ensures memory { OnErr result (records body.now ≢ []) }
     ensures err { OnErr result (AddsSome list.old.items list.new.items (records body.now)) }
 {
     // The proof takes this law; the call does nothing.
     read_as_spelled();
-    let (items, subfields) = (CAT062, SUBS062);
-    let mut places = NO_PLACES;
+    let mut reader = Reader::new();
     let mut rest = body;
     while !rest.is_empty() {
-        match read_with(rest, &items, &subfields, &mut places) {
+        match reader.read(rest) {
             Ok((raw, size)) => {
                 list.push(raw)?;
                 let (_, after) = rest.split_at(size);

@@ -112,11 +112,17 @@ macro_rules! subfield {
     };
 }
 
+/// How many items the table of category 062 has, with the spare ones.
+pub const ITEMS: usize = 35;
+
+/// How many subfields its compound items have together.
+pub const SUBFIELDS: usize = 108;
+
 /// The items of category 062 by FRN, each with its form.
-pub const CAT062: Uap<35> = Uap(category_062!(items));
+pub const CAT062: Uap<ITEMS> = Uap(category_062!(items));
 
 /// The subfields of its compound items, one item's after the other's.
-pub const SUBS062: Subs<108> = Subs(category_062!(subfields));
+pub const SUBS062: Subs<SUBFIELDS> = Subs(category_062!(subfields));
 
 // Whether a category's tables, each with its subfields, are well formed.
 macro_rules! hold {

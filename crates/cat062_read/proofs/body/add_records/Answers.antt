@@ -5,7 +5,7 @@ use Rattle.std.proofs.lemmas.List.Elements.{All-append, All-from_recursion}
 use Rattle.cat062_read.specs.declared.record.Raw062.{Raw062}
 use Rattle.cat062_read.specs.Records.{AddsSome, records}
 use Rattle.cat062_read.specs.Tracks.{IsPlaced}
-use Rattle.cat062_read.proofs.Bodies.{stops_refused, stops_whole, goes_on, goes_on-some, GoesOn, on_err, some_left, nothing_left, placed_more}
+use Rattle.cat062_read.proofs.Bodies.{stops_refused, stops_whole, goes_on, GoesOn, read_some, read_within, on_err, some_left, nothing_left, placed_more}
 use Rattle.cat062_read.proofs.body.add_records.Goals as goal
 
 more : (c : goal.After-after-1) → GoesOn c.args.body.now c.loop-rest.rest.now c.loop-rest.invariant.front c.in-Ok.raw c.in-Ok.size
@@ -29,6 +29,9 @@ loop-rest-init c = record {
   fewer = omega arith;
   all_placed = All-from_recursion IsPlaced [] tt;
 }
+
+pub split_at-requires : goal.split_at-requires
+split_at-requires c = read_within c.read_as_spelled.ensures c.loop-rest.rest.now c.in-Ok.raw c.in-Ok.size (sym c.in-Ok.ensures.reading)
 
 pub loop-rest-smaller : goal.loop-rest-smaller
 loop-rest-smaller c = rw c.split_at.ensures.back ((more c).fewer)
@@ -75,14 +78,13 @@ returns-clause-refused c =
 pub returns-clause-placed : goal.returns-clause-placed
 returns-clause-placed c = behind c.args.list.now.items c.loop-rest.list.items c.loop-rest.invariant.front c.loop-rest.invariant.behind c.loop-rest.invariant.all_placed
 
-pub returns-in_err-push-in-Ok-clause-memory : goal.returns-in_err-push-in-Ok-clause-memory
-returns-in_err-push-in-Ok-clause-memory c =
-    on_err _
-    (goes_on-some c.read_as_spelled.ensures c.args.body.now c.loop-rest.rest.now c.loop-rest.invariant.front c.in-Ok.raw c.in-Ok.size c.loop-rest.invariant.same_records c.loop-rest.invariant.same_left
-    (some_left (length c.loop-rest.rest.now) c.loop-rest-test.ensures) (sym c.in-Ok.ensures.reading))
-
 pub returns-in_err-push-in-Ok-clause-err : goal.returns-in_err-push-in-Ok-clause-err
 returns-in_err-push-in-Ok-clause-err c =
-    let some : AddsSome c.args.list.now.items c.push.new.self.items (records c.args.body.now) =
-    (c.loop-rest.invariant.front, records c.loop-rest.rest.now, sym c.loop-rest.invariant.same_records, c.in_err-push-in-Ok.ensures.items ∙ c.loop-rest.invariant.behind) in
+    let some : AddsSome c.args.list.now.items c.push.new.self.items (records c.args.body.now) = record {
+      front = c.loop-rest.invariant.front;
+      rest = records c.loop-rest.rest.now;
+      whole = sym c.loop-rest.invariant.same_records;
+      added = c.in_err-push-in-Ok.ensures.items ∙ c.loop-rest.invariant.behind;
+      not_all = read_some c.read_as_spelled.ensures c.loop-rest.rest.now c.in-Ok.raw c.in-Ok.size (sym c.in-Ok.ensures.reading);
+    } in
     on_err _ some
