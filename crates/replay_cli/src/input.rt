@@ -1,10 +1,10 @@
 //! Reading a source: a text of at most so many octets, or the content of a feed, in whatever pieces it comes.
-ghost use Rattle.std.specs.Prelude.{◌≡◌, ◌≤◌, ◌++◌, IfOk, OnOk, IsErrOf, All, count_by, drop, not, length};
+ghost use Rattle.std.specs.Prelude.{◌≡◌, ◌≤◌, ◌++◌, [], IfOk, OnOk, IsErrOf, All, count_by, drop, not, length};
 ghost use Rattle.outside_io.specs.Faults.{Rose};
 ghost use Rattle.asterix_blocks.specs.Cutting.{StandsAt};
 ghost use Rattle.cat062_read.specs.Tracks.{IsPlaced, is_usable as usable};
 ghost use Rattle.replay_cli.specs.Content.{is_of_category, records_of, refusals_of};
-ghost use Rattle.replay_cli.specs.Feeds.{AddsBlocks, IsTellable, ReadsText, ReadsWhole, TakesAtMost, with_one, with_usable};
+ghost use Rattle.replay_cli.specs.Feeds.{AddsBlocks, Gathers, IsTellable, ReadsText, ReadsWhole, TakesAtMost, with_one, with_usable};
 
 use crate::content::Input;
 use asterix_blocks::{Block, Cutter, FEED_ROOM};
@@ -51,6 +51,21 @@ pub struct Gathered {
     pub records: Vec<Raw062>,
     pub usable: u64,
     pub refused: Vec<Refused>,
+}
+
+impl Gathered {
+    /// The content of no block.
+    fn nothing(alloc: Global) -> Gathered
+        ensures { Gathers result [] }
+    {
+        Gathered {
+            blocks: 0,
+            passed: 0,
+            records: Vec::new(alloc),
+            usable: 0,
+            refused: Vec::new(alloc),
+        }
+    }
 }
 
 /// How many of the records from a place on are usable.
@@ -111,13 +126,7 @@ pub fn read_whole<S: Source>(alloc: Global, source: &mut S) -> Result<Input, Unr
     // The proof takes this law; the call does nothing.
     usable_records_are_long();
     let mut cutter = Cutter::new(alloc)?;
-    let mut gathered = Gathered {
-        blocks: 0,
-        passed: 0,
-        records: Vec::new(alloc),
-        usable: 0,
-        refused: Vec::new(alloc),
-    };
+    let mut gathered = Gathered::nothing(alloc);
     let mut piece = [0; PIECE];
     let mut room = FEED_ROOM;
     while room > 0 && !cutter.has_bad_length() {

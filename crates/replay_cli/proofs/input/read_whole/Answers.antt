@@ -17,13 +17,15 @@ unfolding framing_within
 nothing_framed = refl
 
 pub loop-room-init : goal.loop-room-init
-loop-room-init g c = record {
-  read = ([], consumes_nothing (g.S.Source.left c.args.source.now), rw nothing_framed c.in_ok-cutter.ensures.start, record { blocks = rw nothing_framed refl; passed = rw nothing_framed refl; usable = rw nothing_framed refl; records = rw nothing_framed c.new-2.ensures.items; refused = rw nothing_framed c.new-3.ensures.items }, refl);
-  piece = refl;
-  within = omega arith;
-  placed = λ k d below. absurd (omega (arith, ap length c.new-2.ensures.items));
-  kept = refl;
-}
+loop-room-init g c =
+    let none : c.nothing-gathered.result.records.items ≡ [] = c.nothing-gathered.ensures.records in
+    record {
+      read = ([], consumes_nothing (g.S.Source.left c.args.source.now), rw nothing_framed c.in_ok-cutter.ensures.start, rw nothing_framed c.nothing-gathered.ensures, refl);
+      piece = refl;
+      within = omega arith;
+      placed = λ k d below. absurd (omega (arith, ap length none));
+      kept = refl;
+    }
 
 pub loop-room-preserved : goal.loop-room-preserved
 loop-room-preserved g c =
@@ -56,8 +58,8 @@ loop-room-preserved g c =
       kept = omega arith;
     }
 
-pub new-requires-4 : goal.new-requires-4
-new-requires-4 g c =
+pub new-requires-2 : goal.new-requires-2
+new-requires-2 g c =
     let r = c.loop-room.invariant.read in
     let whole = r.4 in
     let within : length r.0 ≤ FEED_ROOM = omega arith in
@@ -72,7 +74,7 @@ returns-clause-told g c =
     let left = g.S.Source.left c.args.source.now in
     let left_now = g.S.Source.left c.loop-room.source in
     let within : length r.0 ≤ FEED_ROOM = (let whole = r.4 in omega arith) in
-    rw c.new-4.ensures (elim c.loop-room-test.branch [
+    rw c.new-2.ensures (elim c.loop-room-test.branch [
       | then-loop-room-test+else-not-has_bad_length w ↦
           read_whatever left left_now r.0 input r.1 within
           (read_of_bad c.loop-room.cutter c.loop-room.gathered ended r.0 within r.2 r.3 ends w.if-not-has_bad_length.ensures.bad)
@@ -95,4 +97,4 @@ returns-clause-tellable g c =
     let r = c.loop-room.invariant.read in
     let whole = r.4 in
     let within : length r.0 ≤ FEED_ROOM = omega arith in
-    rw c.new-4.ensures (record { placed = c.loop-room.invariant.placed; few = few_of_fed c.usable_records_are_long.ensures r.0 c.loop-room.gathered.records.items within r.3.records })
+    rw c.new-2.ensures (record { placed = c.loop-room.invariant.placed; few = few_of_fed c.usable_records_are_long.ensures r.0 c.loop-room.gathered.records.items within r.3.records })
