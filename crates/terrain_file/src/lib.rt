@@ -9,6 +9,3 @@ mod terrain;
 pub use fault::TerrainFault;
 pub use read::{TERRAIN_ROOM, read_terrain};
 pub use terrain::{Heights, LEAST_SIDE, MOST_CELLS, MOST_SIDE, NO_HEIGHT, Terrain};
-
-#[cfg(test)]
-mod tests;

@@ -1,4 +1,4 @@
-mod Feeds
+pub mod Feeds
 mod Filters
 mod Freezes
 mod Highest

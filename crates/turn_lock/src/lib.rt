@@ -2,8 +2,6 @@
 #![tactic(auto)]
 
 mod rule;
-#[cfg(test)]
-mod tests;
 mod turn;
 
 pub use rule::Logged;
