@@ -3,6 +3,7 @@
 
 mod fault;
 mod header;
+pub mod laws;
 mod read;
 mod terrain;
 

@@ -1,3 +1,4 @@
+mod Counted
 pub mod Feeds
 mod Filters
 mod Freezes

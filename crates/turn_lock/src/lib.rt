@@ -1,6 +1,7 @@
 //! A lock of the project's own, which never waits, and whose seats know the whole history of what was given at it.
 #![tactic(auto)]
 
+pub mod laws;
 mod rule;
 mod turn;
 

@@ -1,9 +1,13 @@
 //! Sources, sinks and worlds, in memory and over the real files and streams.
-use outside_io::{FileSink, FileWorld, Failed, MemFile, MemSink, MemSource, MemWorld, OpenFault};
-use outside_io::{ReaderSource, Sink, Sinks, Source, World, WriterSink, write_whole};
+use outside_io::{
+    Failed, FileSink, FileSource, FileWorld, MemFile, MemSink, MemSource, MemWorld, OpenFault,
+    ReaderSource, Sink, Sinks, Source, World, WriterSink, write_whole,
+};
 use std::alloc::{AllocError, Global};
-use std::fs;
+use std::io::{ErrorKind, Read, Write};
+use std::process::Abort;
 use std::test::Fail;
+use std::{fs, io};
 
 fn source_of(
     alloc: Global,
@@ -59,6 +63,11 @@ fn a_source_gives_its_bytes_in_pieces(rt: HostRuntime) -> Result<(), Fail> {
         assert_eq!(rt; got.as_slice(), b"abcdefg".as_slice());
         assert_eq!(rt; source.faults, faults);
     }
+    let mut past = source_of(alloc, b"a", &[], &[1, 2])?;
+    assert_eq!(rt; past.read(&mut [0; 2]), Ok(1));
+    assert_eq!(rt; past.read(&mut [0; 2]), Err(Failed));
+    assert_eq!(rt; past.read(&mut [0; 2]), Err(Failed));
+    assert_eq!(rt; past.at, 1);
     let mut unread = source_of(alloc, b"abc", &[], &[])?;
     assert_eq!(rt; unread.read(&mut []), Ok(0));
     assert_eq!(rt; unread.at, 0);
@@ -256,19 +265,68 @@ fn a_file_is_read_and_a_folder_fails(rt: HostRuntime) -> Result<(), Fail> {
     Ok(())
 }
 
+/// The name's file has these bytes left, and then no more.
+fn expect_left(rt: &impl Abort, file: &mut FileSource, bytes: &[u8], name: &str) {
+    let mut buf = [0; 32];
+    match file.read(&mut buf) {
+        Ok(count) => assert_eq!(rt; buf.get(..count), Some(bytes), "of {name:?}"),
+        Err(_) => panic!(rt; "no bytes of {name:?}"),
+    }
+    assert_eq!(rt; file.read(&mut buf), Ok(0), "at the end of {name:?}");
+}
+
+/// Blanks and tabs at the ends of a name, and letters of either case, are part of it.
 #[test]
-fn a_name_that_ends_in_a_space_is_another_file(rt: HostRuntime) -> Result<(), Fail> {
+fn names_are_taken_as_they_stand(rt: HostRuntime) -> Result<(), Fail> {
     let alloc = rt.alloc();
-    fs::write(&rt, "feed", b"without")?;
-    fs::write(&rt, "feed ", b"with")?;
+    let names = [
+        "feed", "feed ", " feed", "feed\t", "\tfeed", "\tfeed ", " ", "\t", "Feed", "feed.ast",
+        "fe ed",
+    ];
+    for name in names {
+        fs::write(&rt, name, name.as_bytes())?;
+    }
     let mut world = FileWorld::new(rt);
-    let files: [(&str, &[u8]); 2] = [("feed ", b"with"), ("feed", b"without")];
-    for (name, bytes) in files {
-        let mut file = world.open(alloc, name).ok().ok_or("feed")?;
-        let mut buf = [0; 8];
-        assert_eq!(rt; file.read(&mut buf), Ok(bytes.len()));
-        assert_eq!(rt; &buf[..bytes.len()], bytes);
-        world.close(file);
+    for name in names {
+        match world.open(alloc, name) {
+            Ok(mut file) => {
+                expect_left(&rt, &mut file, name.as_bytes(), name);
+                world.close(file);
+            }
+            Err(_) => panic!(rt; "no file {name:?}"),
+        }
+    }
+    assert_eq!(rt; (world.opened, world.faults), (0, 0));
+    Ok(())
+}
+
+/// A name of no file is a failure of the world, each time that it is opened; nothing is made by that.
+#[test]
+fn names_that_cannot_be_opened(rt: HostRuntime) -> Result<(), Fail> {
+    let alloc = rt.alloc();
+    fs::write(&rt, "feed", b"abc")?;
+    let mut world = FileWorld::new(rt);
+    let names = [
+        "",
+        "nowhere",
+        "nowhere",
+        "feed ",
+        " feed",
+        "feed/",
+        "feed/feed",
+        "nowhere/feed",
+        "fe\0ed",
+        "feed\0",
+    ];
+    let mut faults = 0;
+    for name in names {
+        faults += 1;
+        assert_eq!(rt;
+            world.open(alloc, name).err(),
+            Some(OpenFault::Failed),
+            "{name:?}"
+        );
+        assert_eq!(rt; (world.opened, world.faults), (0, faults), "{name:?}");
     }
     Ok(())
 }
@@ -291,6 +349,156 @@ fn the_open_files_are_counted(rt: HostRuntime) -> Result<(), Fail> {
     world.opened = u64::MAX;
     assert_eq!(rt; world.open(alloc, "feed").err(), Some(OpenFault::NoMemory));
     assert_eq!(rt; (world.opened, world.faults), (u64::MAX, 1));
+    Ok(())
+}
+
+/// Sixteen files are open at once, one of them twice, and each gives its own bytes in its own time.
+#[test]
+fn many_files_are_open_at_once(rt: HostRuntime) -> Result<(), Fail> {
+    let alloc = rt.alloc();
+    let names = [
+        "0", "1", "2", "3", "4", "5", "6", "7", "8", "9", "a", "b", "c", "d", "e", "0",
+    ];
+    for name in names {
+        fs::write(&rt, name, name.as_bytes())?;
+    }
+    let mut world = FileWorld::new(rt);
+    let mut open = Vec::new(alloc);
+    for name in names {
+        match world.open(alloc, name) {
+            Ok(file) => open.push(file)?,
+            Err(fault) => panic!(rt; "{fault:?} at {name}"),
+        }
+    }
+    assert_eq!(rt; world.opened, 16);
+    for (file, name) in open.iter_mut().zip(names) {
+        expect_left(&rt, file, name.as_bytes(), name);
+    }
+    for file in open {
+        world.close(file);
+    }
+    assert_eq!(rt; (world.opened, world.faults), (0, 0));
+    Ok(())
+}
+
+/// A file that was closed is open no more: the system has room for far fewer at once.
+#[test]
+fn files_are_opened_and_closed_often(rt: HostRuntime) -> Result<(), Fail> {
+    let alloc = rt.alloc();
+    fs::write(&rt, "feed", b"abc")?;
+    let mut world = FileWorld::new(rt);
+    for turn in 0..70_000u32 {
+        match world.open(alloc, "feed") {
+            Ok(file) => world.close(file),
+            Err(fault) => panic!(rt; "{fault:?} at {turn}"),
+        }
+    }
+    assert_eq!(rt; (world.opened, world.faults), (0, 0));
+    Ok(())
+}
+
+/// A reader and a writer one byte a call, which fail at the calls that are listed and then go on.
+#[derive(Drop)]
+struct Faltering {
+    at: u8,
+    calls: u64,
+    fail: [u64; 2],
+}
+
+impl Faltering {
+    fn new(fail: [u64; 2]) -> Faltering {
+        Faltering {
+            at: 0,
+            calls: 0,
+            fail,
+        }
+    }
+
+    /// Counts the call: whether it fails.
+    fn fails(&mut self) -> bool {
+        let call = self.calls;
+        self.calls = call.saturating_add(1);
+        self.fail.contains(&call)
+    }
+}
+
+impl Read for Faltering {
+    fn read(&mut self, buf: &mut [u8]) -> io::Result<usize> {
+        if self.fails() {
+            return Err(io::Error::from(ErrorKind::ConnectionReset));
+        }
+        match buf {
+            [] => Ok(0),
+            [first, ..] => {
+                *first = self.at;
+                self.at = self.at.wrapping_add(1);
+                Ok(1)
+            }
+        }
+    }
+}
+
+impl Write for Faltering {
+    fn write(&mut self, buf: &[u8]) -> io::Result<usize> {
+        if self.fails() {
+            return Err(io::Error::from(ErrorKind::ConnectionReset));
+        }
+        Ok(buf.len().min(1))
+    }
+
+    fn flush(&mut self) -> io::Result<()> {
+        Ok(())
+    }
+}
+
+/// Each call that fails is told once and counted, and the next one gives what comes next.
+#[test]
+fn a_reader_that_fails_once_goes_on(rt: HostRuntime) -> Result<(), Fail> {
+    let rows: [([u64; 2], [Result<u8, Failed>; 5], u64); 4] = [
+        ([9, 9], [Ok(0), Ok(1), Ok(2), Ok(3), Ok(4)], 0),
+        ([0, 9], [Err(Failed), Ok(0), Ok(1), Ok(2), Ok(3)], 1),
+        ([2, 3], [Ok(0), Ok(1), Err(Failed), Err(Failed), Ok(2)], 2),
+        ([1, 4], [Ok(0), Err(Failed), Ok(1), Ok(2), Err(Failed)], 2),
+    ];
+    for (fail, answers, faults) in rows {
+        let mut source = ReaderSource {
+            reader: Faltering::new(fail),
+            faults: 0,
+        };
+        for answer in answers {
+            let mut buf = [0; 3];
+            let got = source.read(&mut buf).map(|count| (count, buf));
+            assert_eq!(rt; got, answer.map(|byte| (1, [byte, 0, 0])), "at {fail:?}");
+        }
+        assert_eq!(rt; source.faults, faults, "at {fail:?}");
+    }
+    Ok(())
+}
+
+/// So it is with a writer: a text that is written whole stops at the first call that fails.
+#[test]
+fn a_writer_that_fails_once_goes_on(rt: HostRuntime) -> Result<(), Fail> {
+    let rows: [(
+        [u64; 2],
+        [Result<usize, Failed>; 4],
+        u64,
+        Result<(), Failed>,
+    ); 3] = [
+        ([9, 9], [Ok(1), Ok(1), Ok(1), Ok(1)], 0, Ok(())),
+        ([1, 6], [Ok(1), Err(Failed), Ok(1), Ok(1)], 1, Err(Failed)),
+        ([0, 3], [Err(Failed), Ok(1), Ok(1), Err(Failed)], 2, Ok(())),
+    ];
+    for (fail, answers, faults, whole) in rows {
+        let mut sink = WriterSink {
+            writer: Faltering::new(fail),
+            faults: 0,
+        };
+        for answer in answers {
+            assert_eq!(rt; sink.write(b"abc"), answer, "at {fail:?}");
+        }
+        assert_eq!(rt; sink.faults, faults, "at {fail:?}");
+        assert_eq!(rt; write_whole(&mut sink, b"abcd"), whole, "at {fail:?}");
+    }
     Ok(())
 }
 

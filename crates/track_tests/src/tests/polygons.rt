@@ -85,11 +85,9 @@ fn are_ahead(within: Ticks) -> bool
     }
 }
 
-/// Whether a place in range is inside a polygon whose points are.
+/// Whether a place is inside a polygon whose points are in range.
 fn is_inside(rt: &impl Abort, points: &[(i64, i64)], x: i64, y: i64) -> bool {
     assert!(rt; are_points(points));
-    assert!(rt; x.unsigned_abs() <= 2 * FARTHEST);
-    assert!(rt; y.unsigned_abs() <= 2 * FARTHEST);
     inside(points, x, y)
 }
 
@@ -377,8 +375,16 @@ fn ends_of_the_ranges(rt: HostRuntime) -> Result<(), Fail> {
         (-2 * FAR, 0, false),
         (0, 2 * FAR, false),
         (0, -2 * FAR, false),
+        // Nothing is too far off to be asked of.
+        (i64::MAX, 0, false),
+        (i64::MIN, 0, false),
+        (i64::MIN, FAR - 1, false),
+        (0, i64::MAX, false),
+        (0, i64::MIN, false),
+        (i64::MIN, i64::MAX, false),
     ];
     expect_inside(&rt, &WORLD, &places);
+    expect_inside(&rt, &HALF_WORLD, &places[6..]);
     Ok(())
 }
 

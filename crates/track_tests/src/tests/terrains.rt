@@ -159,9 +159,14 @@ fn most_cells(rt: HostRuntime) -> Result<(), Fail> {
     assert_eq!(rt; heights[2048], 0);
     assert_eq!(rt; heights[4_194_302], 2046);
     assert_eq!(rt; heights[4_194_303], 2047);
-    bytes.push(0)?;
+    // However much longer it is, one octet more is told.
     let more = TerrainFault::Size(8_388_628, 8_388_629);
-    expect_fault(&rt, rt.alloc(), &bytes, more);
+    for octets in [1, 1, 1_000] {
+        for _ in 0..octets {
+            bytes.push(0)?;
+        }
+        expect_fault(&rt, rt.alloc(), &bytes, more);
+    }
     Ok(())
 }
 
