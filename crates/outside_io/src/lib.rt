@@ -27,6 +27,3 @@ pub use writer::WriterSink;
 
 /// Want of memory.
 pub type NoMemory = std::alloc::AllocError;
-
-#[cfg(test)]
-mod tests;

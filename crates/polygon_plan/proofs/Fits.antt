@@ -1,5 +1,5 @@
 -- What the code computes in 64 and in 128 bits is what it is.
-use Rattle.std.proofs.Common.{◌≡◌, ◌*◌, ◌^◌, ◌≤◌, ℤ, pos, ◌-ℤ◌, ◌*ℤ◌, FitsSigned, arith, w64, to_z, of_z}
+use Rattle.std.proofs.Common.{◌≡◌, ◌∙◌, refl, ◌*◌, ◌^◌, ◌≤◌, ℤ, pos, ◌-ℤ◌, ◌*ℤ◌, FitsSigned, arith, w64, to_z, of_z}
 use Rattle.std.specs.Int.RustNames.{unsigned_abs}
 use Rattle.std.proofs.Math.Nat.{mul-le-mul}
 use Rattle.std.proofs.lemmas.Int.{ints, to_z-of_z, unsigned_abs-mul, fits_signed_from_abs}
@@ -68,6 +68,69 @@ cross_small x y u v short =
     let first : unsigned_abs (x *ℤ v) ≤ 2 ^ 34 * 2 ^ 34 = rw unsigned_abs-mul (mul-le-mul short.x_short short.v_short) in
     let second : unsigned_abs (u *ℤ y) ≤ 2 ^ 34 * 2 ^ 34 = rw unsigned_abs-mul (mul-le-mul short.u_short short.y_short) in
     omega (arith, ints)
+
+-- ---- of the way along an edge and the way from its end to any place
+pub record IsWay (a b way : ℤ) : Type 0 where
+  pub is : way ≡ a -ℤ b
+  pub size : unsigned_abs way ≤ 2 ^ 64
+
+pub way_is : (a b way : ℤ) → FitsSigned w64 a → unsigned_abs b ≤ 2 ^ 40 → way ≡ to_z w64 (of_z w64 a) -ℤ to_z w64 (of_z w64 b) → IsWay a b way
+way_is a b way fits small told =
+    let is : way ≡ a -ℤ b = told ∙ rw (to_z-of_z w64 a fits, as_is b (omega arith)) refl in
+    record { is = is; size = omega (arith, ints) }
+
+pub along_is : (a b way : ℤ) → unsigned_abs a ≤ 2 ^ 32 → unsigned_abs b ≤ 2 ^ 32 → way ≡ to_z w64 (of_z w64 a) -ℤ to_z w64 (of_z w64 b) → (way ≡ a -ℤ b) × (unsigned_abs way ≤ 2 ^ 34)
+along_is a b way small_a small_b told =
+    let is : way ≡ a -ℤ b = told ∙ rw (as_is a (omega arith), as_is b (omega arith)) refl in
+    (is, omega (arith, ints))
+
+far_product : (a b : ℤ) → unsigned_abs a ≤ 2 ^ 64 → unsigned_abs b ≤ 2 ^ 34 → unsigned_abs (a *ℤ b) ≤ 2 ^ 64 * 2 ^ 34
+far_product a b far short = rw unsigned_abs-mul (mul-le-mul far short)
+
+near_product : (a b : ℤ) → unsigned_abs a ≤ 2 ^ 34 → unsigned_abs b ≤ 2 ^ 64 → unsigned_abs (a *ℤ b) ≤ 2 ^ 34 * 2 ^ 64
+near_product a b short far = rw unsigned_abs-mul (mul-le-mul short far)
+
+pub far_fits : (a b : ℤ) → unsigned_abs a ≤ 2 ^ 64 → unsigned_abs b ≤ 2 ^ 34 → FitsSigned w128 (to_z w128 (of_z w128 a) *ℤ to_z w128 (of_z w128 b))
+far_fits a b far short =
+    let size = far_product a b far short in
+    rw (as_is_wide a (omega arith), as_is_wide b (omega arith)) (fits_signed_from_abs w128 (a *ℤ b) (omega arith))
+
+pub near_fits : (a b : ℤ) → unsigned_abs a ≤ 2 ^ 34 → unsigned_abs b ≤ 2 ^ 64 → FitsSigned w128 (to_z w128 (of_z w128 a) *ℤ to_z w128 (of_z w128 b))
+near_fits a b short far =
+    let size = near_product a b short far in
+    rw (as_is_wide a (omega arith), as_is_wide b (omega arith)) (fits_signed_from_abs w128 (a *ℤ b) (omega arith))
+
+far_is : (a b : ℤ) → unsigned_abs a ≤ 2 ^ 64 → unsigned_abs b ≤ 2 ^ 34 → to_z w128 (of_z w128 (to_z w128 (of_z w128 a) *ℤ to_z w128 (of_z w128 b))) ≡ a *ℤ b
+far_is a b far short =
+    let size = far_product a b far short in
+    rw (as_is_wide a (omega arith), as_is_wide b (omega arith)) (as_is_wide (a *ℤ b) (omega arith))
+
+near_is : (a b : ℤ) → unsigned_abs a ≤ 2 ^ 34 → unsigned_abs b ≤ 2 ^ 64 → to_z w128 (of_z w128 (to_z w128 (of_z w128 a) *ℤ to_z w128 (of_z w128 b))) ≡ a *ℤ b
+near_is a b short far =
+    let size = near_product a b short far in
+    rw (as_is_wide a (omega arith), as_is_wide b (omega arith)) (as_is_wide (a *ℤ b) (omega arith))
+
+pub record AreFar (x y u v : ℤ) : Type 0 where
+  pub x_far : unsigned_abs x ≤ 2 ^ 64
+  pub y_far : unsigned_abs y ≤ 2 ^ 64
+  pub u_short : unsigned_abs u ≤ 2 ^ 34
+  pub v_short : unsigned_abs v ≤ 2 ^ 34
+
+pub far_cross_small : (x y u v : ℤ) → AreFar x y u v → unsigned_abs (cross_product x y u v) ≤ 2 ^ 99
+far_cross_small x y u v far =
+    let first = far_product x v far.x_far far.v_short in
+    let second = near_product u y far.u_short far.y_far in
+    omega (arith, ints)
+
+pub far_cross_fits : (x y u v : ℤ) → AreFar x y u v → FitsSigned w128 (to_z w128 (of_z w128 (to_z w128 (of_z w128 x) *ℤ to_z w128 (of_z w128 v))) -ℤ to_z w128 (of_z w128 (to_z w128 (of_z w128 u) *ℤ to_z w128 (of_z w128 y))))
+far_cross_fits x y u v far =
+    let size = far_cross_small x y u v far in
+    rw (far_is x v far.x_far far.v_short, near_is u y far.u_short far.y_far) (fits_signed_from_abs w128 (cross_product x y u v) (omega arith))
+
+pub far_cross_is : (x y u v : ℤ) → AreFar x y u v → to_z w128 (of_z w128 (to_z w128 (of_z w128 (to_z w128 (of_z w128 x) *ℤ to_z w128 (of_z w128 v))) -ℤ to_z w128 (of_z w128 (to_z w128 (of_z w128 u) *ℤ to_z w128 (of_z w128 y))))) ≡ cross_product x y u v
+far_cross_is x y u v far =
+    let size = far_cross_small x y u v far in
+    rw (far_is x v far.x_far far.v_short, near_is u y far.u_short far.y_far) (as_is_wide (cross_product x y u v) (omega arith))
 
 -- ---- the lines of an edge, in range, at a motion in range
 pub record AreLines (m : Motion) (from to : ℤ × ℤ) : Type 0 where

@@ -1,10 +1,10 @@
 //! One edge of a polygon: where it counts, and at which ticks it counts for a moving track.
-ghost use Rattle.std.specs.Prelude.{◌≡◌, ◌<◌, ℤ, Some, length, pos, slice_get};
+ghost use Rattle.std.specs.Prelude.{◌≡◌, ◌<◌, ◌≤◌, ◌^◌, unsigned_abs, ℤ, ◌-ℤ◌, Some, length, pos, slice_get};
 ghost use Rattle.tick_sets.specs.Inequalities.{IsLook};
 ghost use Rattle.tick_sets.specs.Ticks.{AreTicksWhere};
 ghost use Rattle.track_motion.specs.Motions.{InRange};
 ghost use Rattle.polygon_plan.specs.Inside.{counts as counts_at, counts_upward, edges};
-ghost use Rattle.polygon_plan.specs.Ranges.{ArePoints, IsPlace, IsPoint};
+ghost use Rattle.polygon_plan.specs.Ranges.{ArePoints, IsPoint};
 ghost use Rattle.polygon_plan.specs.Sides.{CountsAt, IsBetween, IsLeft, cross_product};
 
 use tick_sets::{Ticks, linear, meet};
@@ -37,14 +37,22 @@ pub fn edge_at(points: &[(i64, i64)], i: usize) -> Edge
 impl Edge {
     /// Whether it counts at a place.
     pub fn counts(&self, x: i64, y: i64) -> bool
-        requires { IsPlace x y }
         ensures { result ≡ counts_at x y (self.now.from, self.now.to) }
     {
-        let Edge {
-            from: (x1, y1),
-            to: (x2, y2),
-        } = self.upward();
-        y1 <= y && y < y2 && cross(x - x1, y - y1, x2 - x1, y2 - y1) < 0
+        let edge = self.upward();
+        edge.from.1 <= y && y < edge.to.1 && edge.cross_to(x, y) < 0
+    }
+
+    /// The cross product of the way from `from` to a place and the way to `to`.
+    fn cross_to(&self, x: i64, y: i64) -> i128
+        ensures bound { unsigned_abs result ≤ 2 ^ 99 }
+        ensures product { result ≡ cross_product (x -ℤ self.now.from.0) (y -ℤ self.now.from.1) (self.now.to.0 -ℤ self.now.from.0) (self.now.to.1 -ℤ self.now.from.1) }
+    {
+        let (along_x, along_y) = (
+            difference(self.to.0, self.from.0),
+            difference(self.to.1, self.from.1),
+        );
+        difference(x, self.from.0) * along_y - along_x * difference(y, self.from.1)
     }
 
     /// The ticks of `0..=l` at which it counts. There are none for a level edge.
@@ -94,6 +102,13 @@ impl Edge {
         let start = cross(m.x - x1, m.y - y1, along_x, along_y);
         linear(-slope, -start - 1, l)
     }
+}
+
+/// The difference of two numbers.
+fn difference(a: i64, b: i64) -> i128
+    ensures { result ≡ a -ℤ b }
+{
+    i128::from(a) - i128::from(b)
 }
 
 /// The cross product of (x, y) and (u, v): below 0 where (x, y) is to the left, seen along (u, v).

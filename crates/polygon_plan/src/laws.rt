@@ -26,7 +26,7 @@ pub fn either_way_round()
     ensures { (points : List (ℤ × ℤ)) (x y : ℤ) → inside (reverse points) x y ≡ inside points x y }
 {}
 
-/// At each tick of a look-ahead a motion in range is at a place that can be asked of.
+/// At each tick of a look-ahead a motion in range is at most twice as far from 0 as a point may be.
 pub fn motions_keep_to_places()
     ensures { (m : Motion) (t : ℤ) → InRange m → IsLook t → IsPlace (line_at m.vx m.x t) (line_at m.vy m.y t) }
 {}

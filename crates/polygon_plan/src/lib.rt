@@ -11,6 +11,3 @@ pub use place::inside;
 
 /// Want of memory.
 pub type NoMemory = std::alloc::AllocError;
-
-#[cfg(test)]
-mod tests;

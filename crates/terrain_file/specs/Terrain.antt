@@ -1,5 +1,5 @@
 -- The terrain that a file's octets are, or their first fault (this project's profile).
-use Rattle.std.specs.Prelude.{ℕ, ◌+◌, ◌*◌, ◌==◌, nat_eq, nat_lt, nat_le, not, Bool, ◌&&◌, ◌||◌, if◌then◌else◌, ℤ, pos, ◌*ℤ◌, List, [], slice_range, length, map, Result, Ok, Err}
+use Rattle.std.specs.Prelude.{ℕ, ◌+◌, ◌*◌, min, ◌==◌, nat_eq, nat_lt, nat_le, not, Bool, ◌&&◌, ◌||◌, if◌then◌else◌, ℤ, pos, ◌*ℤ◌, List, [], slice_range, length, map, Result, Ok, Err}
 use Rattle.std.specs.Int.{w16, w32, cast_signed}
 use Rattle.std.specs.List.{range_with_len, starts_with}
 use Rattle.byteorder.specs.Endian.{big_number}
@@ -7,6 +7,7 @@ use Rattle.terrain_file.specs.declared.fault.TerrainFault.{TerrainFault}
 use Rattle.terrain_file.specs.declared.fault.TerrainFault.TheVariants.{Magic, Cell, Count, Size}
 use Rattle.terrain_file.specs.declared.header.Header.{Header}
 use Rattle.terrain_file.specs.declared.header.TheConstants.{MAGIC, X0, Y0, SIDE, COLUMNS, ROWS, HEADER_LENGTH, VALUE_LENGTH}
+use Rattle.terrain_file.specs.declared.read.TheConstants.{TERRAIN_ROOM}
 use Rattle.terrain_file.specs.declared.terrain.Terrain.{Terrain}
 use Rattle.terrain_file.specs.declared.terrain.TheConstants.{LEAST_SIDE, MOST_CELLS, MOST_SIDE}
 use Rattle.terrain_file.specs.Ranges.{metres}
@@ -54,16 +55,19 @@ terrain_under header heights = record {
 abbrev pub is_count : ℕ → Bool
 is_count count = nat_le 1 count && nat_le count MOST_CELLS
 
+-- how many octets a file is told to have, counted up to one more than a terrain has at most
+abbrev pub found_of : List ℕ → ℕ
+found_of bytes = min (length bytes) (TERRAIN_ROOM + 1)
+
 -- the terrain that a file's octets are, or their first fault
 unfoldable pub terrain_of : List ℕ → Result Terrain TerrainFault
 terrain_of bytes =
     let header : Header = header_of bytes in
-    let found : ℕ = length bytes in
     if not (starts_with nat_eq bytes MAGIC) then Err Magic
-    else if nat_lt found HEADER_LENGTH then Err (Size HEADER_LENGTH found)
+    else if nat_lt (length bytes) HEADER_LENGTH then Err (Size HEADER_LENGTH (found_of bytes))
     else if nat_lt header.side LEAST_SIDE || nat_lt MOST_SIDE header.side then Err (Cell header.side)
     else if not (is_count header.columns && is_count header.rows) then Err (Count header.columns header.rows)
-    else if not (found == length_of header) then Err (Size (length_of header) found)
+    else if not (length bytes == length_of header) then Err (Size (length_of header) (found_of bytes))
     else Ok (terrain_under header (heights_of bytes (cells header)))
 
 -- the terrain of a site that has none: no cell, and of what must be in range the least

@@ -1,9 +1,9 @@
 //! A file as a terrain.
 
-ghost use Rattle.std.specs.Prelude.{◌≡◌, ◌≢◌, ◌≤◌, ◌+◌, ◌*◌, length, pos, ◌*ℤ◌, IfOk, IfErr, Ok, Err};
+ghost use Rattle.std.specs.Prelude.{◌≡◌, ◌≢◌, ◌≤◌, ◌+◌, ◌*◌, length, pos, ◌*ℤ◌, IfOk, IfErr, IsOk, Ok, Err};
 ghost use Rattle.terrain_file.specs.declared.fault.TerrainFault.TheVariants.{NoMemory};
 ghost use Rattle.terrain_file.specs.Ranges.{IsCorner, IsSide, IsTerrain, metres};
-ghost use Rattle.terrain_file.specs.Terrain.{cells, heights_of, is_count, terrain_of, terrain_under};
+ghost use Rattle.terrain_file.specs.Terrain.{cells, found_of, heights_of, is_count, terrain_of, terrain_under};
 
 use crate::fault::TerrainFault;
 use crate::header::{HEADER_LENGTH, Header, MAGIC, VALUE_LENGTH};
@@ -74,19 +74,27 @@ fn terrain(header: Header, values: Heights) -> Terrain
     }
 }
 
-/// The terrain that a file's octets are, or their first fault.
+/// How many octets a file is told to have: a longer one is told as one octet longer than a terrain has at most.
+fn found_of(bytes: &[u8]) -> u64
+    ensures { result ≡ found_of bytes.now }
+{
+    bytes.len().min(TERRAIN_ROOM + 1) as u64
+}
+
+/// The terrain that a file's octets are, or their first fault. A file that is refused takes no memory.
 #[tactic(auto, unfolding(crate::specs::Terrain::terrain_of))]
 pub fn read_terrain(alloc: Global, bytes: &[u8]) -> Result<Terrain, TerrainFault>
     ensures ok { IfOk result (λ terrain. terrain_of bytes.now ≡ Ok terrain) }
     ensures fault { IfErr result (λ e. e ≢ NoMemory → terrain_of bytes.now ≡ Err e) }
+    ensures memory { IfErr result (λ e. e ≡ NoMemory → IsOk (terrain_of bytes.now)) }
     ensures accepted { IfOk result IsTerrain }
 {
-    let found = bytes.len();
+    let length = bytes.len();
     if !bytes.starts_with(&MAGIC) {
         return Err(TerrainFault::Magic);
     }
-    if found < HEADER_LENGTH {
-        return Err(TerrainFault::Size(HEADER_LENGTH as u64, found as u64));
+    if length < HEADER_LENGTH {
+        return Err(TerrainFault::Size(HEADER_LENGTH as u64, found_of(bytes)));
     }
     let header = Header::of(bytes);
     if header.side < LEAST_SIDE || MOST_SIDE < header.side {
@@ -95,8 +103,8 @@ pub fn read_terrain(alloc: Global, bytes: &[u8]) -> Result<Terrain, TerrainFault
     if !is_count(header.columns) || !is_count(header.rows) {
         return Err(TerrainFault::Count(header.columns, header.rows));
     }
-    if found != header.length() {
-        return Err(TerrainFault::Size(header.length() as u64, found as u64));
+    if length != header.length() {
+        return Err(TerrainFault::Size(header.length() as u64, found_of(bytes)));
     }
     let values = heights(alloc, bytes, header.cells())?;
     Ok(terrain(header, Heights::new(values)))

@@ -1,5 +1,5 @@
 -- What a set of ticks has in it, and which set or tick each operation is to give. A tick is a whole number of 1/128 s (this project's profile).
-use Rattle.std.specs.Prelude.{◌≡◌, ℕ, ◌%◌, Bool, false, ◌&&◌, List, ℤ, pos, ◌≤ℤ◌, ◌<ℤ◌, int_le, count_by}
+use Rattle.std.specs.Prelude.{◌≡◌, ℕ, ◌%◌, Bool, false, ◌&&◌, List, ℤ, pos, ◌≤ℤ◌, ◌<ℤ◌, int_le, count_by, Contains}
 use Rattle.tick_sets.specs.declared.Ticks.{Ticks}
 use Rattle.tick_sets.specs.declared.Ticks.TheVariants.{Empty, Span}
 
@@ -32,6 +32,10 @@ pub record IsFirstTick (P : ℤ → Type 0) (ticks : Ticks) (t : ℤ) : Type 0 w
   pub member : Has ticks t
   pub holds : P t
   pub first : (s : ℤ) → Has ticks s → P s → t ≤ℤ s
+
+-- one of the sets has a tick
+abbrev pub HaveSome : List Ticks → Type 0
+HaveSome sets = (ticks : Ticks) × (t : ℤ) × Contains sets ticks × Has ticks t
 
 -- whether t is one of the ticks
 abbrev pub has_tick : ℤ → Ticks → Bool

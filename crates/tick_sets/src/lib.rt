@@ -42,6 +42,3 @@ impl TickHit {
         }
     }
 }
-
-#[cfg(test)]
-mod tests;

@@ -2,7 +2,7 @@ ghost use Rattle.std.specs.Prelude.{ℤ, ◌≤ℤ◌, IfOk, OnOk, OnErr, IfSome
 ghost use Rattle.std.specs.Ordering.{int_cmp};
 ghost use Rattle.tick_sets.specs.declared.Ticks.TheVariants.{Span};
 ghost use Rattle.tick_sets.specs.Ends.{AddsEnds, AreEndsOf, IsAfterOddEnds};
-ghost use Rattle.tick_sets.specs.Ticks.{Has, IsFirstTick, IsInOddNumber};
+ghost use Rattle.tick_sets.specs.Ticks.{Has, HaveSome, IsFirstTick, IsInOddNumber};
 
 use crate::Ticks;
 use std::alloc::{AllocError, Global};
@@ -14,6 +14,8 @@ pub fn odd_first(alloc: Global, sets: &[Ticks], within: Ticks) -> Result<Option<
     ensures none { IfOk result (λ answer. IfNone answer ((t : ℤ) → Has within t → ¬ IsInOddNumber sets.now t)) }
     // Want of memory is answered only where `within` has a tick.
     ensures memory { OnErr result ((t : ℤ) × Has within t) }
+    // It is answered only where one of the sets has one, too.
+    ensures sets { OnErr result (HaveSome sets.now) }
 {
     match within {
         Ticks::Span { first, last } if first <= last => {
@@ -53,7 +55,8 @@ fn first_odd(ends: &[i64], first: i64, last: i64) -> Option<i64>
 
 /// The ticks at which the sets begin and have just ended, in the order of the sets.
 fn ends_of(alloc: Global, sets: &[Ticks]) -> Result<Vec<i64>, AllocError>
-    ensures { IfOk result (λ ends. AreEndsOf sets.now ends.items) }
+    ensures ends { IfOk result (λ ends. AreEndsOf sets.now ends.items) }
+    ensures memory { OnErr result (HaveSome sets.now) }
 {
     let mut ends = Vec::new(alloc);
     for ticks in sets {
@@ -64,7 +67,8 @@ fn ends_of(alloc: Global, sets: &[Ticks]) -> Result<Vec<i64>, AllocError>
 
 /// The set's first tick and the tick after its last, unless no tick comes after it.
 fn push_ends(ends: &mut Vec<i64>, ticks: Ticks) -> Result<(), AllocError>
-    ensures { OnOk result (AddsEnds ends.old.items ends.new.items ticks) }
+    ensures ends { OnOk result (AddsEnds ends.old.items ends.new.items ticks) }
+    ensures memory { OnErr result ((t : ℤ) × Has ticks t) }
 {
     match ticks {
         Ticks::Span { first, last } if first <= last => {

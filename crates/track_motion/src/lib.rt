@@ -9,6 +9,3 @@ pub mod track;
 pub use motion::{Motion, motion_at};
 pub use rank::{Stamped, rank_less};
 pub use track::{TICKS_PER_DAY, Track, TrackKey};
-
-#[cfg(test)]
-mod tests;

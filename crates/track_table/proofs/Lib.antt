@@ -1,4 +1,5 @@
-mod Feeds
+mod Counted
+pub mod Feeds
 mod Filters
 mod Freezes
 mod Highest

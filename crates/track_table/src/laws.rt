@@ -1,17 +1,29 @@
-//! Laws of the definitions: each is the contract of a function that does nothing.
-ghost use Rattle.std.specs.Prelude.{◌≡◌, ℕ, ◌<◌, ◌≤◌, List, [], ◌∷◌, ◌++◌, length, map, Some, None, ℤ, pos, ◌≤ℤ◌, ◌<ℤ◌, ◌+ℤ◌, ◌*ℤ◌, All, Contains, IsTrue};
+//! Laws of the definitions and of the numbers: each is the contract of a function that does nothing.
+ghost use Rattle.std.specs.Prelude.{◌≡◌, ℕ, ◌+◌, ◌<◌, ◌≤◌, List, [], ◌∷◌, ◌++◌, length, map, Some, None, ℤ, pos, neg_ℤ, ◌≤ℤ◌, ◌<ℤ◌, ◌+ℤ◌, ◌*ℤ◌, ◌*◌, ◌↔◌, All, Contains, IsTrue};
 ghost use Rattle.std.specs.List.Sorted.{IsNonDecreasingBy, IsStrictlySortedBy};
 ghost use Rattle.track_motion.specs.declared.rank.Stamped.{Stamped};
 ghost use Rattle.track_motion.specs.declared.track.Track.{Track};
+ghost use Rattle.track_motion.specs.declared.track.TrackKey.{TrackKey};
 ghost use Rattle.track_motion.specs.declared.motion.TheConstants.{LONGEST_AGE};
 ghost use Rattle.track_motion.specs.Keys.{key_cmp};
 ghost use Rattle.track_table.specs.declared.clock.TheConstants.{MOST_TRACKS};
 ghost use Rattle.track_table.specs.Kept.{AreDue};
+ghost use Rattle.track_table.specs.KeyOrder.{key_number};
 ghost use Rattle.track_table.specs.Order.{AreRanked, AreSame};
 ghost use Rattle.track_table.specs.Proper.{IsProper, IsTold, frozen_of};
 ghost use Rattle.track_table.specs.Stamps.{clock_after, clock_of, stamp_of, stamps_of, stamps_of_feeds};
 ghost use Rattle.track_table.specs.Tables.{IsHighest, IsRowOf, due, highest, is_row, of_key, table};
-ghost use Rattle.track_table.specs.Times.{AreDayCycles, IsNear, IsTime, at_near, cycle_time, half_day};
+ghost use Rattle.track_table.specs.Times.{AreDayCycles, IsNear, IsTime, at_near, cycle_time, day, half_day};
+
+/// The day and half of one in ticks of 1/128 s, the most tracks of a feed (2^39), the ends of the times (2^62), and
+/// a key as one number: 2^24 for each system area code, 2^16 for each system identification code.
+pub fn numbers()
+    ensures day { day ≡ pos 11059200 }
+    ensures half { half_day ≡ pos 5529600 }
+    ensures most { MOST_TRACKS ≡ 549755813888 }
+    ensures times { (time : ℤ) → IsTime time ↔ ((neg_ℤ (pos 4611686018427387904) ≤ℤ time) × (time <ℤ pos 4611686018427387904)) }
+    ensures key { (key : TrackKey) → key_number key ≡ key.sac * 16777216 + key.sic * 65536 + key.number }
+{}
 
 /// A time of day names one time near the present one.
 pub fn one_near_time()

@@ -17,6 +17,3 @@ pub use table::{Frozen, Put, Table};
 
 /// Want of memory.
 pub type NoMemory = std::alloc::AllocError;
-
-#[cfg(test)]
-mod tests;

@@ -1,5 +1,5 @@
 //! The table of tracks: what is kept of all records put, and the rows of a cycle.
-ghost use Rattle.std.specs.Prelude.{◌≡◌, ◌≢◌, [], ◌∷◌, ◌++◌, List, None, Some, IfOk, OnOk, OnErr};
+ghost use Rattle.std.specs.Prelude.{◌≡◌, ◌≢◌, ◌≤◌, ◌+◌, [], ◌∷◌, ◌++◌, List, length, None, Some, IfOk, OnOk, OnErr};
 ghost use Rattle.track_motion.specs.declared.rank.Stamped.{Stamped};
 ghost use Rattle.track_table.specs.Kept.{AreDue, CanFreeze, StandsFor, answer_to, counting, counts};
 ghost use Rattle.track_table.specs.Tables.{table};
@@ -71,6 +71,7 @@ impl Table {
     pub fn put(&mut self, s: Stamped) -> Result<Put, NoMemory>
         ensures answer { IfOk result (λ put. (puts : List Stamped) → StandsFor self.old puts → put ≡ answer_to self.old.timeout self.old.frozen puts s) }
         ensures stands { OnOk result ((puts : List Stamped) → StandsFor self.old puts → StandsFor self.new (puts ++ s ∷ [])) }
+        ensures count { OnOk result (length self.new.kept ≤ length self.old.kept + 1) }
         ensures others { OnOk result (self.new ≡ record self.old { kept = self.new.kept }) }
         ensures memory { OnErr result ((puts : List Stamped) → StandsFor self.old puts → counting self.old.timeout self.old.frozen s.track.key puts ≡ []) }
         ensures err { OnErr result (self.new ≡ self.old) }

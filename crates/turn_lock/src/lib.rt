@@ -1,9 +1,8 @@
 //! A lock of the project's own, which never waits, and whose seats know the whole history of what was given at it.
 #![tactic(auto)]
 
+pub mod laws;
 mod rule;
-#[cfg(test)]
-mod tests;
 mod turn;
 
 pub use rule::Logged;

@@ -1,5 +1,5 @@
 //! A source in memory.
-ghost use Rattle.std.specs.Prelude.{◌≡◌, ◌≤◌, ◌+◌, ◌-◌, min, length, drop, take, Some, IfOk, if◌then◌else◌};
+ghost use Rattle.std.specs.Prelude.{◌≡◌, ◌≤◌, ◌+◌, ◌-◌, min, length, drop, take, Some, IfOk, OnErr, if◌then◌else◌};
 ghost use Rattle.std.specs.Result.{is_err};
 ghost use Rattle.std.specs.Io.KnownBytes.{ReadConsumes};
 ghost use Rattle.outside_io.specs.Faults.{HasCause};
@@ -36,6 +36,7 @@ impl Source for MemSource {
         ensures fails { is_err result ≡ is_listed self.old.fail.items self.old.calls }
         ensures count { IfOk result (λ n. n ≡ at_least_one self.old.cuts.items self.old.calls (min (length self.old.bytes.items - self.old.at) (length buf.old))) }
         ensures place { IfOk result (λ n. self.new.at ≡ self.old.at + n) }
+        ensures stays { OnErr result (self.new.at ≡ self.old.at) }
         ensures calls { self.new.calls ≡ counted self.old.calls }
         ensures faults { self.new.faults ≡ (if is_err result then counted self.old.faults else self.old.faults) }
         ensures kept { self.new ≡ record self.old { at = self.new.at; calls = self.new.calls; faults = self.new.faults } }

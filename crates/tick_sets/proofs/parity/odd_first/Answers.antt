@@ -8,11 +8,11 @@ returns-in_ok-ends-in-Span-clause-found c =
     let fits_first : SFits w64 c.in-Span.first = search rules in
     let fits_last : SFits w64 c.in-Span.last = search rules in
     let found = simp to_z-of_z at c.first_odd.ensures.found in
-    found_in_sets c.first_odd.result c.args.sets.now _ _ _ c.args.within _ _ c.in_ok-ends-in-Span.ensures c.sort_unstable.ensures.permutation c.deref.ensures.value c.in-Span.is (omega (arith, ints)) found
+    found_in_sets c.first_odd.result c.args.sets.now _ _ _ c.args.within _ _ c.in_ok-ends-in-Span.ensures.ends c.sort_unstable.ensures.permutation c.deref.ensures.value c.in-Span.is (omega (arith, ints)) found
 
 pub returns-in_ok-ends-in-Span-clause-none : goal.returns-in_ok-ends-in-Span-clause-none
 returns-in_ok-ends-in-Span-clause-none c =
     let fits_first : SFits w64 c.in-Span.first = search rules in
     let fits_last : SFits w64 c.in-Span.last = search rules in
     let none = simp to_z-of_z at c.first_odd.ensures.none in
-    none_in_sets c.first_odd.result c.args.sets.now _ _ _ c.args.within _ _ c.in_ok-ends-in-Span.ensures c.sort_unstable.ensures.permutation c.deref.ensures.value c.in-Span.is (omega (arith, ints)) none
+    none_in_sets c.first_odd.result c.args.sets.now _ _ _ c.args.within _ _ c.in_ok-ends-in-Span.ensures.ends c.sort_unstable.ensures.permutation c.deref.ensures.value c.in-Span.is (omega (arith, ints)) none

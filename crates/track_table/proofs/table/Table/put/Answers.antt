@@ -1,8 +1,10 @@
-use Rattle.std.proofs.Common.{◌≡◌, true, false, None, w64, FitsSigned, ap, sym, subst, ◌∙◌, rules}
+use Rattle.std.proofs.Common.{◌≡◌, length, true, false, None, w64, FitsSigned, ap, sym, subst, ◌∙◌, rules, arith}
 use Rattle.std.proofs.lemmas.Int.{to_z-of_z}
 use Rattle.std.proofs.lemmas.Result.{err_from_is_err_and}
+use Rattle.track_motion.specs.Keys.{key_cmp}
 use Rattle.track_table.specs.Held.{Held}
 use Rattle.track_table.specs.Kept.{counts, superseded_by, unless_outranked}
+use Rattle.track_table.proofs.Counted.{inserted_count, put_over_count}
 use Rattle.track_table.proofs.Newest.{found}
 use Rattle.track_table.proofs.Puts.{answer_is, first_stands, first_stays, kept_of, missing, none_counts, put_inserts, put_over_stands, put_stays, told}
 use Rattle.track_table.proofs.table.Table.put.Goals as goal
@@ -20,6 +22,23 @@ returns-in-Some-clause-stands c = λ puts stands.
     let inside = c.self.inside in
     let held : inside.kept ≡ kept_of inside.timeout inside.frozen puts = subst (λ (h : Held). h.kept ≡ kept_of h.timeout h.frozen puts) (sym c.self.view_is) stands in
     put_over_stands inside.timeout inside.frozen puts c.args.s inside.kept c.put_over.new.self c.in-Some.put held c.in-Some.ensures.answer c.in-Some.ensures.written c.in-Some.ensures.same
+
+pub returns-in-Some-clause-count : goal.returns-in-Some-clause-count
+returns-in-Some-clause-count c =
+    let inside = c.self.inside in
+    let more = put_over_count c.in-Some.put inside.kept c.put_over.new.self c.args.s c.in-Some.ensures.written c.in-Some.ensures.same in
+    let kept = ap (λ (h : Held). length h.kept) c.self.view_is in
+    omega (arith, more, kept)
+
+pub returns-in_ok-insert-clause-count : goal.returns-in_ok-insert-clause-count
+returns-in_ok-insert-clause-count c =
+    let inside = c.self.inside in
+    let same : c.put_over.new.self ≡ inside.kept = c.in_default.ensures.same (λ e. cc) in
+    let more = inserted_count key_cmp c.put_over.new.self c.args.s.track.key c.args.s in
+    let inserted = ap length c.in_ok-insert.ensures.inserted in
+    let before = ap length same in
+    let kept = ap (λ (h : Held). length h.kept) c.self.view_is in
+    omega (arith, more, inserted, before, kept)
 
 pub returns-in_ok-insert-clause-answer : goal.returns-in_ok-insert-clause-answer
 returns-in_ok-insert-clause-answer c = λ puts stands.

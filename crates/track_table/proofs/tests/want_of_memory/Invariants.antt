@@ -1,5 +1,0 @@
-use Rattle.track_table.specs.Kept.{CanFreeze}
-use Rattle.track_table.proofs.tests.want_of_memory.Given as goal
-
-abbrev pub invariant-loop-i : goal.invariant-loop-i
-invariant-loop-i g l = CanFreeze l.table 0

@@ -1,0 +1,8 @@
+mod motions;
+mod outside;
+mod polygons;
+mod steps;
+mod tables;
+mod terrains;
+mod ticks;
+mod turns;
