@@ -4,7 +4,6 @@ use Rattle.track_motion.specs.declared.track.TrackKey.{TrackKey}
 use Rattle.alert_states.specs.declared.event.Net.TheVariants.{Stca, Msaw, Apw, Apm}
 use Rattle.alert_states.specs.declared.event.Status.TheVariants.{First, Continuing, Ended}
 use Rattle.alert_states.specs.declared.event.HitData.{HitData}
-use Rattle.alert_states.specs.declared.event.Subject.{Subject}
 use Rattle.alert_states.specs.declared.event.Event.{Event}
 use Rattle.alert_states.specs.Figures.{FitsOctets}
 use Rattle.cat004_write.specs.Messages.{message}
