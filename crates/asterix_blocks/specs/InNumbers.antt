@@ -1,6 +1,5 @@
 -- Data blocks in plain numerals (ASTERIX part 1, the data block): the category in octet 1, the length in octets 2 and 3, at least 3.
 use Rattle.std.specs.Prelude.{◌≡◌, [], ◌∷◌}
-use Rattle.asterix_blocks.specs.declared.blocks.Block.{Block}
 use Rattle.asterix_blocks.specs.declared.blocks.End.TheVariants.{Clean, Truncated, BadLength}
 use Rattle.asterix_blocks.specs.Framing.{blocks, declared_length, end}
 
