@@ -1,4 +1,5 @@
 pub mod Framing
+pub mod InNumbers
 pub mod Held
 pub mod Spelling
 pub mod Cutting

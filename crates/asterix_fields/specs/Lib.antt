@@ -1,4 +1,5 @@
 pub mod Numbers
+pub mod InNumbers
 pub mod Tables
 pub mod Spelling
 pub mod Faults

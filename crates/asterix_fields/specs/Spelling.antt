@@ -77,12 +77,12 @@ Item subs (Repeat size) text = IsSimple (Repeat size) text
 abbrev pub Spells : List Form → List Form → List ℕ → List (List ℕ) → Type 0
 Spells uap subs bytes items = Lays (Item subs) uap bytes items
 
--- where texts stand, one after the other, from a place on
+-- where texts stand, one after the other, from an offset on
 abbrev pub places : ℕ → List (List ℕ) → List Span
 places at [] = []
 places at (text ∷ texts) = record { at = at; len = length text } ∷ places (at + length text) texts
 
--- the text at a place, and the texts at several
+-- the text at an offset, of so many octets, and several such texts
 abbrev pub text_at : List ℕ → Span → List ℕ
 text_at bytes span = take span.len (drop span.at bytes)
 
@@ -95,7 +95,7 @@ pub record IsWalk (uap subs : List Form) (bytes : List ℕ) (spans : List Span) 
   pub spelled : Spells uap subs (take size bytes) (texts_at bytes spans)
   pub in_order : spans ≡ places (length spelled.presence) (texts_at bytes spans)
 
--- each item of a walk is the text at its place: an item that the FSPEC names has a spelling there, any other one has no octet
+-- each item of a walk is the text at its offset: an item that the FSPEC names has a spelling there, any other one has no octet
 abbrev pub HasItems : {uap subs : List Form} {bytes : List ℕ} {spans : List Span} {size : ℕ} → IsWalk uap subs bytes spans size → Type 0
 HasItems {uap} {subs} {bytes} {spans} walk = (k : ℕ) (d : Span) → k < length uap
     → Stands (Item subs) (is_named walk.spelled.presence (k + 1)) (slice_index_or uap k Spare) (text_at bytes (slice_index_or spans k d))

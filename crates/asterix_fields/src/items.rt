@@ -9,7 +9,7 @@ use crate::fault::ItemFault;
 use crate::presence::{bits_of, first_past, primary_length};
 use crate::tables::{Form, rows_of};
 
-/// How many octets the item has that stands at this place.
+/// How many octets the item has that stands at this offset.
 pub fn item_length(
     frn: u8,
     form: Form,
@@ -144,7 +144,7 @@ fn subfields_end(
     Ok(at)
 }
 
-/// How many octets a subfield has that stands at this place.
+/// How many octets a subfield has that stands at this offset.
 fn row_length(frn: u8, row: Form, bytes: &[u8], at: usize) -> Result<usize, ItemFault>
     requires fixed_or_repeated { IsTrue (is_row row) }
     requires inside { at ≤ length bytes.now }

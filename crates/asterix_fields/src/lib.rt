@@ -16,6 +16,3 @@ pub use numbers::{be16, be24, be32, put16, put24, put32, signed16, signed24, sig
 pub use places::{Span, Walk};
 pub use tables::{Form, Subs, Uap, well_formed};
 pub use walking::{find_items, walk};
-
-#[cfg(test)]
-mod tests;

@@ -12,8 +12,5 @@ pub use alert_states::{
 pub use message::{MESSAGE_ROOM, Message, write_event};
 pub use packer::{CATEGORY, PACKED_ROOM, Packer};
 
-#[cfg(test)]
-mod tests;
-
 /// Want of memory.
 pub type NoMemory = std::alloc::AllocError;

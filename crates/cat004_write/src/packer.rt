@@ -93,9 +93,9 @@ impl Packer {
             return Ok(());
         }
         if length == 0 || length + message.len() > PACKED_ROOM {
-            let place = self.bytes.len();
+            let offset = self.bytes.len();
             begin_block(&mut self.bytes, message)?;
-            self.last = place;
+            self.last = offset;
             self.spare = spare;
             return Ok(());
         }
@@ -134,17 +134,17 @@ fn begin_block(bytes: &mut Vec<u8>, message: &[u8]) -> Result<(), NoMemory>
 }
 
 /// Puts a message into the last block.
-fn extend_block(bytes: &mut Vec<u8>, place: usize, message: &[u8]) -> Result<(), NoMemory>
-    requires { HasRoom bytes.old.items place message.now }
-    ensures ok { OnOk result (bytes.new.items ≡ extended bytes.old.items place message.now) }
+fn extend_block(bytes: &mut Vec<u8>, offset: usize, message: &[u8]) -> Result<(), NoMemory>
+    requires { HasRoom bytes.old.items offset message.now }
+    ensures ok { OnOk result (bytes.new.items ≡ extended bytes.old.items offset message.now) }
     ensures len { OnOk result (vec_len bytes.new ≡ vec_len bytes.old + length message.now) }
     ensures err { OnErr result (bytes.new.items ≡ bytes.old.items) }
     ensures capacity { vec_capacity bytes.old ≤ vec_capacity bytes.new }
     ensures ready { vec_len bytes.old + length message.now ≤ vec_capacity bytes.old → IsOk result }
 {
     bytes.extend_from_slice(message)?;
-    let [high, low] = put16((bytes.len() - place) as u16);
-    bytes[place + 1] = high;
-    bytes[place + 2] = low;
+    let [high, low] = put16((bytes.len() - offset) as u16);
+    bytes[offset + 1] = high;
+    bytes[offset + 2] = low;
     Ok(())
 }

@@ -3,7 +3,7 @@ use Rattle.std.specs.Prelude.{ℕ, ℤ, ◌-◌, ◌+◌, ◌/◌, ◌%◌, ◌^
 use Rattle.asterix_fields.specs.Numbers.{big_endian, twos_complement}
 use Rattle.cat062_read.specs.declared.record.Raw062.{Raw062}
 
--- the number in two octets, three or four, from a place on
+-- the number in two octets, three or four, from an offset on
 abbrev pub two_at : List ℕ → ℕ → ℕ
 two_at text at = big_endian (slice_index text at ∷ slice_index text (at + 1) ∷ [])
 

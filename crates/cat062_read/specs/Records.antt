@@ -56,10 +56,10 @@ pub record IsRead (body : List ℕ) (texts : List (List ℕ)) (items : List (Lis
 abbrev pub HasReading : List ℕ → Type 0
 HasReading body = (texts : List (List ℕ)) × (items : List (List (List ℕ))) × (rest : List ℕ) × IsRead body texts items rest
 
--- What is refused of a body whose records end at this place: nothing where nothing is left; else the rest, with its first fault.
+-- What is refused of a body whose records end at this offset: nothing where nothing is left; else the rest, with its first fault.
 abbrev pub IsRefusal : List ℕ → ℕ → Option (ℕ × ItemFault) → Type 0
-IsRefusal [] place refused = refused ≡ None
-IsRefusal (octet ∷ more) place refused = (found : ItemFault) × (IsFirstFault062 (octet ∷ more) found × (refused ≡ Some (place, found)))
+IsRefusal [] offset refused = refused ≡ None
+IsRefusal (octet ∷ more) offset refused = (found : ItemFault) × (IsFirstFault062 (octet ∷ more) found × (refused ≡ Some (offset, found)))
 
 -- the record at the front: what is read of it, and how many octets it has, or else the first fault
 unfoldable pub reading : List ℕ → Result (Raw062 × ℕ) ItemFault
@@ -83,7 +83,7 @@ records body = (read_up_to (length body) body).0
 unfoldable pub left_of : List ℕ → List ℕ
 left_of body = (read_up_to (length body) body).1
 
--- where octets are left, the place in the body of the first of them, and their first fault
+-- where octets are left, the offset in the body of the first of them, and their first fault
 abbrev pub refused_at : ℕ → List ℕ → Option (ℕ × ItemFault)
 refused_at size [] = None
 refused_at size (octet ∷ rest) = option_map (λ found. (size - length (octet ∷ rest), found)) (fault062 (octet ∷ rest))
@@ -91,7 +91,7 @@ refused_at size (octet ∷ rest) = option_map (λ found. (size - length (octet �
 unfoldable pub refusal : List ℕ → Option (ℕ × ItemFault)
 refusal body = refused_at (length body) (left_of body)
 
--- the same with the place in the feed, of a body that stands at this offset
+-- the same with the offset in the feed, of a body whose first octet has this one
 abbrev pub refused_from : ℕ → Option (ℕ × ItemFault) → Option Refused
 refused_from offset refused = option_map (λ r. record { offset = offset + r.0; fault = r.1 }) refused
 
@@ -100,7 +100,7 @@ abbrev pub HasOneReading : List ℕ → Type 0
 HasOneReading body = (texts : List (List ℕ)) (items : List (List (List ℕ))) (rest : List ℕ) → IsRead body texts items rest
     → (records body ≡ map contents items) × IsRefusal rest (length (joined texts)) (refusal body)
 
--- a body may stand at this place in a feed: it is no longer than a block can be, and begins no later than a body may
+-- a body may stand at this offset in a feed: it is no longer than a block can be, and begins no later than a body may
 pub record IsBodyAt (body : List ℕ) (offset : ℕ) : Type 0 where
   pub room : length body ≤ BLOCK_ROOM
   pub early : offset ≤ LAST_PLACE

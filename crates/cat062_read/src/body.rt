@@ -13,10 +13,10 @@ use std::alloc::{AllocError, Global};
 /// Want of memory.
 pub type NoMemory = AllocError;
 
-/// The last place in a feed at which a body may begin.
+/// The last offset in a feed at which a body may begin.
 pub const LAST_PLACE: u64 = 1 << 40;
 
-/// Where octets begin no record: the place in the feed of the first of them, and their first fault.
+/// Where octets begin no record: the offset in the feed of the first of them, and their first fault.
 #[derive(Clone, Copy, Debug, PartialEq, Eq)]
 pub struct Refused {
     pub offset: u64,
@@ -30,7 +30,7 @@ pub struct BlockRead {
     pub refused: Option<Refused>,
 }
 
-/// Reads the body of a block of category 62, whose first octet stands at this place in the feed.
+/// Reads the body of a block of category 62, whose first octet stands at this offset in the feed.
 pub fn read_block(alloc: Global, body: &[u8], offset: u64) -> Result<BlockRead, NoMemory>
     requires room { length body.now ≤ BLOCK_ROOM }
     requires early { offset ≤ LAST_PLACE }

@@ -143,11 +143,11 @@ pub fn is_ended(text: &[u8]) -> bool
     octet(text, 1) / 64 % 2 == 1
 }
 
-/// The octet at a place, or 0 where there is none.
-fn octet(text: &[u8], place: usize) -> u8
-    ensures { result ≡ slice_index text.now place }
+/// The octet at an offset, or 0 where there is none.
+fn octet(text: &[u8], offset: usize) -> u8
+    ensures { result ≡ slice_index text.now offset }
 {
-    match text.get(place) {
+    match text.get(offset) {
         Some(octet) => *octet,
         None => 0,
     }

@@ -14,6 +14,3 @@ pub use reading::read_record;
 pub use record::Raw062;
 pub use table::{CAT062, CATEGORY, SUBS062, tables_hold};
 pub use track::{TICKS_PER_DAY, Track, TrackKey, is_usable, track_of};
-
-#[cfg(test)]
-mod tests;

@@ -13,7 +13,7 @@ invariant_of-self-then-length-eq0 c =
     let m : List ℕ = take c.args.m.now.len c.args.m.now.bytes in
     let some : 0 < length m = grind (arith, nat_tests) in
     let small : length m ≤ MESSAGE_ROOM = omega (arith, length-take c.args.m.now.len c.args.m.now.bytes) in (
-      IsWhole-begun c.self.inside.bytes.items c.begin_block.new.bytes.items m c.len-place.result (omega arith) some small (c.in_ok-begin_block.ensures.ok),
+      IsWhole-begun c.self.inside.bytes.items c.begin_block.new.bytes.items m c.len-offset.result (omega arith) some small (c.in_ok-begin_block.ensures.ok),
       spare_left _ _ _ _ _ _ c.self.invariant.1 c.begin_block.ensures.capacity c.begin_block.new.bytes.ok.1 (omega (arith, small, c.in_ok-begin_block.ensures.len)) (omega arith),
     )
 
@@ -26,7 +26,7 @@ returns-then-length-eq0-clause-ok c ms h =
     elim c.then-length-eq0.branch [ then-length-eq0-via-then-length-eq0 w ↦ inl (omega arith) | then-length-eq0-via-else-length-eq0+then-length-message-gt-PACKED_ROOM w ↦ inr (omega arith) ] in
     let P : Held → Type 0 = λ p. Packs p.blocks ms in
     let held : P c.args.self.now = h in
-    Packs-block_begun old c.begin_block.new.bytes.items m c.self.inside.last c.len-place.result ms c.self.invariant.0 full small (omega arith) c.in_ok-begin_block.ensures.ok (subst P (sym c.self.view_is) held)
+    Packs-block_begun old c.begin_block.new.bytes.items m c.self.inside.last c.len-offset.result ms c.self.invariant.0 full small (omega arith) c.in_ok-begin_block.ensures.ok (subst P (sym c.self.view_is) held)
 
 pub extend_block-requires : goal.extend_block-requires
 extend_block-requires c =

@@ -1,8 +1,7 @@
 //! Feeds cut in pieces, each answer worked out by hand from the octets.
 ghost use Rattle.std.specs.Prelude.{◌≤◌, ◌<◌, length};
 
-use super::*;
-use crate::feeds::take_blocks;
+use asterix_blocks::{Cutter, End, Framed, NoMemory, frame, frame_pieces, take_blocks};
 use asterix_fields::sizes::HEADER_LENGTH;
 use std::alloc::Global;
 use std::process::Abort;
@@ -85,62 +84,62 @@ fn expect_blocks(
     Ok(())
 }
 
+/// Both tracks, and then a bad length and a whole block.
+const BAD_LENGTH_BETWEEN: [u8; 62] = [
+    0x3E, 0x00, 0x1C, 0x97, 0x0D, 0x24, 0x19, 0x0A, 0x46, 0x51, 0x00, 0x00, 0x00, 0x00, 0x00, 0x00,
+    0x00, 0x03, 0xE8, 0x00, 0x00, 0x01, 0x01, 0x00, 0x05, 0x28, 0x00, 0x00, 0x3E, 0x00, 0x1C, 0x97,
+    0x0D, 0x24, 0x19, 0x0A, 0x46, 0x51, 0x00, 0x00, 0x27, 0x10, 0x00, 0x00, 0x00, 0xFC, 0x18, 0x00,
+    0x00, 0x01, 0x02, 0x00, 0x05, 0x30, 0x00, 0x00, 0x3E, 0x00, 0x02, 0x3E, 0x00, 0x03,
+];
+
+/// Feeds, their blocks, and how they end.
+const FEEDS: [(&[u8], &[Shape], End); 14] = [
+    (&[], &[], End::Clean),
+    (&[0x3E], &[], End::Truncated(0)),
+    (&[0x3E, 0x00], &[], End::Truncated(0)),
+    (&[0x3E, 0x00, 0x00], &[], End::BadLength(0)),
+    (&[0x3E, 0x00, 0x02], &[], End::BadLength(0)),
+    (&[0x3E, 0x00, 0x03], &[Shape(0, 62, 0)], End::Clean),
+    (&[0x3E, 0x00, 0x04], &[], End::Truncated(0)),
+    (&[0x3E, 0x01, 0x03, 0x04], &[], End::Truncated(0)),
+    (
+        &[0x3E, 0x00, 0x02, 0x22, 0x00, 0x03],
+        &[],
+        End::BadLength(0),
+    ),
+    (
+        &[0x22, 0x00, 0x03, 0x22, 0x00, 0x02, 0x22, 0x00, 0x03],
+        &[Shape(0, 34, 0)],
+        End::BadLength(3),
+    ),
+    (
+        &[0x22, 0x00, 0x03, 0x22, 0x00],
+        &[Shape(0, 34, 0)],
+        End::Truncated(3),
+    ),
+    (
+        &OTHERS,
+        &[
+            Shape(0, 34, 2),
+            Shape(5, 0, 0),
+            Shape(8, 255, 1),
+            Shape(12, 62, 4),
+        ],
+        End::Clean,
+    ),
+    (&TWO_TRACKS, &TWO_SHAPES, End::Clean),
+    (&BAD_LENGTH_BETWEEN, &TWO_SHAPES, End::BadLength(56)),
+];
+
 #[test]
-fn short_feeds_and_their_ends(rt: HostRuntime) -> Result<(), Fail> {
-    let cases: [(&[u8], &[Shape], End); 12] = [
-        (&[], &[], End::Clean),
-        (&[0x3E], &[], End::Truncated(0)),
-        (&[0x3E, 0x00], &[], End::Truncated(0)),
-        (&[0x3E, 0x00, 0x00], &[], End::BadLength(0)),
-        (&[0x3E, 0x00, 0x02], &[], End::BadLength(0)),
-        (&[0x3E, 0x00, 0x03], &[Shape(0, 62, 0)], End::Clean),
-        (&[0x3E, 0x00, 0x04], &[], End::Truncated(0)),
-        (&[0x3E, 0x01, 0x03, 0x04], &[], End::Truncated(0)),
-        (
-            &[0x3E, 0x00, 0x02, 0x22, 0x00, 0x03],
-            &[],
-            End::BadLength(0),
-        ),
-        (
-            &[0x22, 0x00, 0x03, 0x22, 0x00, 0x02, 0x22, 0x00, 0x03],
-            &[Shape(0, 34, 0)],
-            End::BadLength(3),
-        ),
-        (
-            &[0x22, 0x00, 0x03, 0x22, 0x00],
-            &[Shape(0, 34, 0)],
-            End::Truncated(3),
-        ),
-        (
-            &OTHERS,
-            &[
-                Shape(0, 34, 2),
-                Shape(5, 0, 0),
-                Shape(8, 255, 1),
-                Shape(12, 62, 4),
-            ],
-            End::Clean,
-        ),
-    ];
-    for (feed, shapes, end) in cases {
-        expect_blocks(&rt, rt.alloc(), feed, shapes, end)?;
+fn feeds_and_their_ends(rt: HostRuntime) -> Result<(), Fail> {
+    for (feed, shapes, end) in FEEDS.iter() {
+        expect_blocks(&rt, rt.alloc(), feed, shapes, *end)?;
     }
-    Ok(())
-}
-
-#[test]
-fn two_tracks_then_a_bad_length(rt: HostRuntime) -> Result<(), Fail> {
-    expect_blocks(&rt, rt.alloc(), &TWO_TRACKS, &TWO_SHAPES, End::Clean)?;
-    let mut feed = Vec::from_slice(rt.alloc(), &TWO_TRACKS)?;
-    feed.extend_from_slice(&[0x3E, 0x00, 0x02])?;
-    expect_blocks(&rt, rt.alloc(), &feed, &TWO_SHAPES, End::BadLength(56))?;
-    feed.extend_from_slice(&TWO_TRACKS)?;
-    expect_blocks(&rt, rt.alloc(), &feed, &TWO_SHAPES, End::BadLength(56))?;
-    Ok(())
-}
-
-#[test]
-fn a_feed_cut_off_in_its_second_block(rt: HostRuntime) -> Result<(), Fail> {
+    // Two tracks and a bad length alone.
+    let feed = &BAD_LENGTH_BETWEEN[..59];
+    expect_blocks(&rt, rt.alloc(), feed, &TWO_SHAPES, End::BadLength(56))?;
+    // Cut off in the second block.
     for kept in 29..56 {
         let feed = &TWO_TRACKS[..kept];
         expect_blocks(

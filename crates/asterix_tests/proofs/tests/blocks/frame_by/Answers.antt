@@ -1,6 +1,6 @@
 use Rattle.std.proofs.Common.{◌++◌, ℕ, length-append, length-drop, arith}
 use Rattle.std.proofs.lemmas.List.{length-take}
-use Rattle.asterix_blocks.proofs.tests.frame_by.Goals as goal
+use Rattle.asterix_tests.proofs.tests.blocks.frame_by.Goals as goal
 
 pub loop-at-preserved : goal.loop-at-preserved
 loop-at-preserved c =

@@ -1,6 +1,6 @@
 use Rattle.std.proofs.Common.{◌≡◌, ◌-◌, ◌≤◌, length, List, ℕ}
 use Rattle.asterix_blocks.specs.Cutting.{Cuts}
-use Rattle.asterix_blocks.proofs.tests.frame_by.Given as goal
+use Rattle.asterix_tests.proofs.tests.blocks.frame_by.Given as goal
 
 -- as much was fed as was passed
 abbrev pub invariant-loop-at : goal.invariant-loop-at
