@@ -5,6 +5,7 @@
 mod entries;
 mod fault;
 mod kinds;
+pub mod laws;
 mod lists;
 mod names;
 mod numbers;
@@ -23,6 +24,3 @@ pub use site_types::{
     FEET_PER_LEVEL, HEIGHT_UNITS_PER_25_FEET, LENGTH_UNITS_PER_METRE, Limits, ListLimits,
     PairLimits, Pairs, TICKS_PER_SECOND,
 };
-
-#[cfg(test)]
-mod tests;

@@ -4,6 +4,7 @@
 mod confirms;
 mod fields;
 mod funnels;
+pub mod laws;
 mod read;
 mod regions;
 mod sets;
@@ -17,6 +18,3 @@ pub use site_types::{
     Volume, Volumes,
 };
 pub use terrain_file::{Terrain, TerrainFault, read_terrain};
-
-#[cfg(test)]
-mod tests;
