@@ -1,6 +1,9 @@
 //! Fields of small documents, each answer worked out by hand.
 
-use super::*;
+use site_fields::{
+    Field, Limits, ListLimits, Names, PairLimits, Place, ReadEntry, SiteFault, entries_of,
+    integers_of, numbers_of,
+};
 use std::alloc::Global;
 use std::process::Abort;
 use std::test::Fail;
