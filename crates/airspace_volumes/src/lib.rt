@@ -13,6 +13,3 @@ pub use bounds::Bounds;
 pub use hit::apw;
 pub use polygon_plan::NoMemory;
 pub use times::active;
-
-#[cfg(test)]
-mod tests;

@@ -12,6 +12,3 @@ mod units;
 
 pub use approach::Approach;
 pub use hit::{FunnelHit, apm};
-
-#[cfg(test)]
-mod tests;

@@ -11,7 +11,7 @@ use crate::NoMemory;
 use crate::messages::{pack_events, tell_events};
 use alert_states::{Book, Event};
 use cat004_write::Packer;
-use cycle_workers::{Nets, hits_one};
+use cycle_workers::Nets;
 use outside_io::{Failed, Sink, Steps, write_whole};
 use site_params::Site;
 use std::alloc::{AllocError, Global};
@@ -130,6 +130,8 @@ impl<'a> Engine<'a> {
         ensures prefix { IsErrOf result CycleFault.WriteFault → WritesPrefix self.old f.now (K.taken sink.old) (K.taken sink.new) }
         ensures broken { IsErrOf result CycleFault.WriteFault → Rose (K.faults sink.old) (K.faults sink.new) }
 
+        ensures still { IsErrOf result CycleFault.WriteFault → self.new.next ≡ self.old.next }
+
         // What stays as it was.
         ensures setting { self.new.setting ≡ self.old.setting }
         ensures unbroken { (IsErrOf result CycleFault.WriteFault → ⊥) → K.faults sink.new ≡ K.faults sink.old }
@@ -137,7 +139,7 @@ impl<'a> Engine<'a> {
         ensures later { steps.old ≤ steps.new }
     {
         let site = self.nets.site();
-        let found = hits_one(self.alloc, f, &self.nets, steps)?;
+        let found = self.nets.hits(self.alloc, f, steps)?;
         let firsts = tell_events(
             &mut self.book,
             &mut self.packer,

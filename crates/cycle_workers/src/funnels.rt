@@ -12,7 +12,7 @@ use crate::NoMemory;
 use crate::movers::Mover;
 use crate::rows::{number_of, row_figures, row_subject, set_of};
 use alert_states::{ABOVE, BELOW, Hit, LEFT, Net, RIGHT, URGENT};
-use approach_funnel::{Approach, FunnelHit, apm};
+use approach_funnel::{Approach, FunnelHit};
 use site_params::{Set, Site};
 use tick_sets::laws::searches_find_the_first;
 
@@ -57,7 +57,7 @@ fn examine_funnel(set: &Set, m: &Mover, object: u16, approach: &Approach<'_>) ->
 {
     // The proof takes this law; the call does nothing.
     searches_find_the_first();
-    let hit = apm(&m.motion, approach, set)?;
+    let hit = approach.hit(&m.motion, set)?;
     Some(funnel_hit(m, object, &hit))
 }
 

@@ -12,7 +12,7 @@ use crate::movers::Mover;
 use crate::rows::{set_of, tick_hit};
 use alert_states::{Hit, Net};
 use site_params::{Set, Site};
-use terrain_cells::{Ground, msaw};
+use terrain_cells::Ground;
 use tick_sets::laws::searches_find_the_first;
 
 /// The hit of a row by the terrain, by the row's set.
@@ -25,7 +25,7 @@ fn examine_ground(set: &Set, m: &Mover, ground: &Ground<'_>) -> Option<Hit>
 {
     // The proof takes this law; the call does nothing.
     searches_find_the_first();
-    let hit = msaw(&m.motion, ground, set)?;
+    let hit = ground.hit(&m.motion, set)?;
     Some(tick_hit(Net::Msaw, m, 0, hit))
 }
 

@@ -10,7 +10,7 @@ ghost use Rattle.cycle_workers.specs.Movers.{AreMovers};
 use crate::NoMemory;
 use crate::movers::Mover;
 use crate::rows::{number_of, set_of, tick_hit};
-use airspace_volumes::{Area, apw};
+use airspace_volumes::Area;
 use alert_states::{Hit, Net};
 use site_params::{Set, Site};
 use std::alloc::Global;
@@ -34,7 +34,7 @@ fn examine_volume(
 {
     // The proof takes this law; the call does nothing.
     searches_find_the_first();
-    let Some(hit) = apw(alloc, &m.motion, area, time, set)? else {
+    let Some(hit) = area.hit(alloc, &m.motion, time, set)? else {
         return Ok(None);
     };
     Ok(Some(tick_hit(Net::Apw, m, object, hit)))

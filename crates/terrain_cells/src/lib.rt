@@ -11,6 +11,3 @@ mod limits;
 
 pub use ground::Ground;
 pub use hit::msaw;
-
-#[cfg(test)]
-mod tests;
