@@ -1,8 +1,8 @@
 -- Numbers in other units: that they fit 64 bits, and keep their order.
 use Rattle.std.proofs.Common.{◌≡◌, ℕ, ◌^◌, ◌<◌, ◌≤◌, ℤ, pos, negsuc, ◌*ℤ◌, ◌≤ℤ◌, arith, mul-le-mul_left, lit<, w32, w64, SFits, FitsSigned, to_z, of_z}
 use Rattle.std.proofs.lemmas.Int.{ints, to_z-of_z, fits_signed_mul}
-use Rattle.site_fields.specs.declared.ranges.Limits.{Limits}
-use Rattle.site_fields.specs.Ranges.{IsWithin, IsIn}
+use Rattle.site_types.specs.declared.limits.Limits.{Limits}
+use Rattle.site_types.specs.Limits.{IsWithin, IsIn}
 
 product_fits : (number : ℤ) (units : ℕ) → SFits w32 number → units < 2 ^ 16 → FitsSigned w64 (number *ℤ pos units)
 product_fits number units short few = fits_signed_mul w64 number (pos units) (2 ^ 31) (2 ^ 16) (omega (arith, ints)) (omega (arith, ints)) (lit< tt)

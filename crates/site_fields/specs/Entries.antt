@@ -5,7 +5,7 @@ use Rattle.std.specs.Str.{bytes_eq}
 use Rattle.toml.specs.Data.{Data, Members, get_member, as_str, as_table}
 use Rattle.site_fields.specs.declared.fault.Field.{Field}
 use Rattle.site_fields.specs.declared.fault.SiteFault.TheVariants.{Twice, NoSuchName}
-use Rattle.site_fields.specs.declared.ranges.Limits.{Limits}
+use Rattle.site_types.specs.declared.limits.Limits.{Limits}
 use Rattle.site_fields.specs.declared.ranges.TheConstants.{NAME_LENGTH}
 use Rattle.site_fields.specs.Kinds.{Reading, ◌>>=◌, Place, field, required, text}
 use Rattle.site_fields.specs.Ranges.{within}

@@ -8,7 +8,7 @@ use Rattle.toml.specs.declared.value.Value.{Value}
 use Rattle.toml.specs.Data.{Data, Items, Members, no_items, item, as_integer, as_array}
 use Rattle.site_fields.specs.declared.fault.Field.{Field}
 use Rattle.site_fields.specs.declared.fault.SiteFault.TheVariants.{Kind}
-use Rattle.site_fields.specs.declared.ranges.ListLimits.{ListLimits}
+use Rattle.site_types.specs.declared.limits.ListLimits.{ListLimits}
 use Rattle.site_fields.specs.Kinds.{Reading, ◌>>=◌}
 use Rattle.site_fields.specs.Ranges.{within}
 

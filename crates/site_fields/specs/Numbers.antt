@@ -4,9 +4,9 @@ use Rattle.std.specs.Ordering.{int_eq}
 use Rattle.toml.specs.Data.{Data, get_member, as_integer}
 use Rattle.site_fields.specs.declared.fault.Field.{Field}
 use Rattle.site_fields.specs.declared.fault.SiteFault.TheVariants.{Kind, Range}
-use Rattle.site_fields.specs.declared.ranges.Limits.{Limits}
+use Rattle.site_types.specs.declared.limits.Limits.{Limits}
 use Rattle.site_fields.specs.declared.ranges.TheConstants.{OCTET}
-use Rattle.site_fields.specs.declared.numbers.TheConstants.{TICKS_PER_SECOND, LENGTH_UNITS_PER_METRE, HEIGHT_UNITS_PER_25_FEET, FEET_PER_LEVEL}
+use Rattle.site_types.specs.declared.units.TheConstants.{TICKS_PER_SECOND, LENGTH_UNITS_PER_METRE, HEIGHT_UNITS_PER_25_FEET, FEET_PER_LEVEL}
 use Rattle.site_fields.specs.Kinds.{Reading, ◌>>=◌, Place, field, required}
 use Rattle.site_fields.specs.Ranges.{within}
 

@@ -2,7 +2,7 @@
 use Rattle.std.specs.Prelude.{ℕ, ℤ, pos, ◌*ℤ◌, List, [], ◌∷◌, length, Option, None, Ok, option_map, option_and_then}
 use Rattle.toml.specs.Data.{Data, get_member, as_integer}
 use Rattle.site_fields.specs.declared.fault.Field.{Field}
-use Rattle.site_fields.specs.declared.ranges.PairLimits.{PairLimits}
+use Rattle.site_types.specs.declared.limits.PairLimits.{PairLimits}
 use Rattle.site_fields.specs.Kinds.{Reading, ◌>>=◌, Place, field, required}
 use Rattle.site_fields.specs.Ranges.{within}
 use Rattle.site_fields.specs.Numbers.{if_there}

@@ -3,7 +3,7 @@ use Rattle.std.specs.Prelude.{ℕ, pos, List, length, Option, Ok, ok_or}
 use Rattle.toml.specs.Data.{Data, get_member, as_str}
 use Rattle.site_fields.specs.declared.fault.Field.{Field}
 use Rattle.site_fields.specs.declared.fault.SiteFault.TheVariants.{Kind}
-use Rattle.site_fields.specs.declared.ranges.Limits.{Limits}
+use Rattle.site_types.specs.declared.limits.Limits.{Limits}
 use Rattle.site_fields.specs.Kinds.{Reading, ◌>>=◌, Place, field}
 use Rattle.site_fields.specs.Numbers.{if_there}
 use Rattle.site_fields.specs.Ranges.{within}

@@ -8,7 +8,6 @@ mod kinds;
 mod lists;
 mod names;
 mod numbers;
-mod pair_list;
 mod pairs;
 mod ranges;
 mod tables;
@@ -19,11 +18,11 @@ pub use fault::{Field, SiteFault};
 pub use kinds::Place;
 pub use lists::{integers_of, numbers_of};
 pub use names::Names;
-pub use numbers::{
-    FEET_PER_LEVEL, HEIGHT_UNITS_PER_25_FEET, LENGTH_UNITS_PER_METRE, TICKS_PER_SECOND,
+pub use ranges::{NAME_LENGTH, OCTET, within};
+pub use site_types::{
+    FEET_PER_LEVEL, HEIGHT_UNITS_PER_25_FEET, LENGTH_UNITS_PER_METRE, Limits, ListLimits,
+    PairLimits, Pairs, TICKS_PER_SECOND,
 };
-pub use pair_list::Pairs;
-pub use ranges::{Limits, ListLimits, NAME_LENGTH, OCTET, PairLimits, within};
 
 #[cfg(test)]
 mod tests;

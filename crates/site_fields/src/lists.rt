@@ -5,11 +5,12 @@ ghost use Rattle.toml.specs.Data.{as_integer, as_table};
 ghost use Rattle.toml.specs.View.{view};
 ghost use Rattle.site_fields.specs.declared.fault.SiteFault.TheVariants.{NoMemory};
 ghost use Rattle.site_fields.specs.Kinds.{reading_map};
-ghost use Rattle.site_fields.specs.Ranges.{AreNumbers};
+ghost use Rattle.site_types.specs.Limits.{AreNumbers};
 ghost use Rattle.site_fields.specs.Lists.{each, of_kind, as_parts, parts, table_views, list_of, number_in, numbers_of};
 
 use crate::fault::{Field, SiteFault};
-use crate::ranges::{Limits, ListLimits, within};
+use crate::ranges::within;
+use site_types::{Limits, ListLimits};
 use std::alloc::Global;
 use toml::{Table, Value};
 

@@ -3,25 +3,16 @@
 ghost use Rattle.std.specs.Prelude.{◌≡◌, IfOk, IfSome};
 ghost use Rattle.toml.specs.View.{view};
 ghost use Rattle.site_fields.specs.Kinds.{place};
-ghost use Rattle.site_fields.specs.Ranges.{IsWithin, IsIn, IsHeight, IsLevel};
+ghost use Rattle.site_types.specs.Limits.{IsWithin, IsIn, IsHeight, IsLevel};
 ghost use Rattle.site_fields.specs.Numbers.{ranged, levels, integer, octet, seconds, metres, height, optional_integer, optional_levels};
 
 use crate::fault::{Field, SiteFault};
 use crate::kinds::Place;
-use crate::ranges::{Limits, OCTET, within};
+use crate::ranges::{OCTET, within};
+use site_types::{
+    FEET_PER_LEVEL, HEIGHT_UNITS_PER_25_FEET, LENGTH_UNITS_PER_METRE, Limits, TICKS_PER_SECOND,
+};
 use toml::Value;
-
-/// A site's unit of time.
-pub const TICKS_PER_SECOND: i64 = 128;
-
-/// A site's unit of length.
-pub const LENGTH_UNITS_PER_METRE: i64 = 512;
-
-/// A site's unit of height.
-pub const HEIGHT_UNITS_PER_25_FEET: i64 = 30_720;
-
-/// Heights stand in steps of so many feet.
-pub const FEET_PER_LEVEL: i32 = 25;
 
 /// An integer in range.
 #[tactic(auto, unfolding(crate::specs::Numbers::ranged))]

@@ -4,15 +4,15 @@ ghost use Rattle.std.specs.Prelude.{◌≡◌, ◌≢◌, pos, ◌*ℤ◌, IfOk,
 ghost use Rattle.toml.specs.View.{view};
 ghost use Rattle.site_fields.specs.declared.fault.SiteFault.TheVariants.{NoMemory};
 ghost use Rattle.site_fields.specs.Kinds.{place};
-ghost use Rattle.site_fields.specs.Ranges.{IsIn, IsPair, IsPairs};
+ghost use Rattle.site_types.specs.Limits.{IsIn, IsPair, IsPairs};
 ghost use Rattle.site_fields.specs.Lists.{each, of_kind, list_of};
 ghost use Rattle.site_fields.specs.Pairs.{two, as_pair, in_units, pair, pairs_of, pairs, optional_pairs};
 
 use crate::fault::{Field, SiteFault};
 use crate::kinds::Place;
 use crate::lists::{as_parts, parts};
-use crate::pair_list::Pairs;
-use crate::ranges::{PairLimits, within};
+use crate::ranges::within;
+use site_types::{PairLimits, Pairs};
 use std::alloc::Global;
 use toml::Value;
 

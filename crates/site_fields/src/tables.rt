@@ -6,12 +6,13 @@ ghost use Rattle.site_fields.specs.declared.fault.SiteFault.TheVariants.{NoMemor
 ghost use Rattle.site_fields.specs.Kinds.{place};
 ghost use Rattle.site_fields.specs.Lists.{table_views};
 ghost use Rattle.site_fields.specs.Entries.{so_many_tables, tables, optional_tables};
-ghost use Rattle.site_fields.specs.Ranges.{IsWithin};
+ghost use Rattle.site_types.specs.Limits.{IsWithin};
 
 use crate::fault::{Field, SiteFault};
 use crate::kinds::Place;
 use crate::lists::tables_of;
-use crate::ranges::{Limits, within};
+use crate::ranges::within;
+use site_types::Limits;
 use std::alloc::Global;
 use toml::{Table, Value};
 

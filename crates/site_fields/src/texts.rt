@@ -3,12 +3,13 @@
 ghost use Rattle.std.specs.Prelude.{◌≡◌, pos, length, option_map, IfOk, IfSome};
 ghost use Rattle.toml.specs.View.{view};
 ghost use Rattle.site_fields.specs.Kinds.{reading_map, place};
-ghost use Rattle.site_fields.specs.Ranges.{IsWithin};
+ghost use Rattle.site_types.specs.Limits.{IsWithin};
 ghost use Rattle.site_fields.specs.Texts.{text_within, optional_text};
 
 use crate::fault::{Field, SiteFault};
 use crate::kinds::Place;
-use crate::ranges::{Limits, within};
+use crate::ranges::within;
+use site_types::Limits;
 use toml::Value;
 
 /// A text of so many octets.

@@ -6,8 +6,8 @@ use Rattle.site_fields.specs.declared.fault.SiteFault.TheVariants.{Range}
 use Rattle.site_fields.specs.Kinds.{Reading, ◌>>=◌, Place, field, required, table}
 use Rattle.site_fields.specs.Lists.{list_of}
 use Rattle.site_fields.specs.Ranges.{within}
-use Rattle.site_params.specs.declared.ranges.TheConstants.{CONFIRM_CYCLES, HOLD_CYCLES}
-use Rattle.site_params.specs.declared.site.Confirm.{Confirm}
+use Rattle.site_types.specs.declared.ranges.TheConstants.{CONFIRM_CYCLES, HOLD_CYCLES}
+use Rattle.site_types.specs.declared.site.Confirm.{Confirm}
 
 -- [m, n, hold] in range: n first, then m against it, then hold
 unfoldable pub confirm_of : Field → ℤ → ℤ → ℤ → Reading Confirm

@@ -7,9 +7,10 @@ use Rattle.site_fields.specs.Kinds.{Reading, ◌>>=◌, Place, field}
 use Rattle.site_fields.specs.Lists.{numbers_of}
 use Rattle.site_fields.specs.Numbers.{octet, seconds, optional_integer, optional_levels}
 use Rattle.site_fields.specs.Texts.{optional_text}
-use Rattle.site_params.specs.declared.ranges.TheConstants.{VERSION, DAY_SECONDS, CYCLE_SECONDS, QNH_FEET, CODES, FILE_NAME_LENGTH}
+use Rattle.site_types.specs.declared.ranges.TheConstants.{DAY_SECONDS, CYCLE_SECONDS, QNH_FEET, CODES, FILE_NAME_LENGTH}
+use Rattle.site_params.specs.declared.fields.TheConstants.{VERSION}
 use Rattle.site_params.specs.declared.fields.General.{General}
-use Rattle.site_params.specs.declared.site.Site.{Site}
+use Rattle.site_types.specs.declared.site.Site.{Site}
 use Rattle.site_params.specs.Confirms.{confirms_of}
 use Rattle.site_params.specs.Sets.{sets_of}
 use Rattle.site_params.specs.Regions.{regions_of}

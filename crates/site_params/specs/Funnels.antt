@@ -5,8 +5,8 @@ use Rattle.site_fields.specs.declared.fault.SiteFault.TheVariants.{Range}
 use Rattle.site_fields.specs.Kinds.{Reading, ◌>>=◌, Place, field}
 use Rattle.site_fields.specs.Numbers.{integer, metres, height}
 use Rattle.site_fields.specs.Entries.{optional_tables, entries}
-use Rattle.site_params.specs.declared.ranges.TheConstants.{FUNNEL_COUNT, PLACE_METRES, DIRECTION, ELEVATION_FEET, REACH_METRES, CAPTURE_FEET, HALF_METRES, SIDE_METRES, BASE_FEET, RISE_FEET}
-use Rattle.site_params.specs.declared.funnel.Funnel.{Funnel}
+use Rattle.site_types.specs.declared.ranges.TheConstants.{FUNNEL_COUNT, PLACE_METRES, DIRECTION, ELEVATION_FEET, REACH_METRES, CAPTURE_FEET, HALF_METRES, SIDE_METRES, BASE_FEET, RISE_FEET}
+use Rattle.site_types.specs.declared.funnel.Funnel.{Funnel}
 use Rattle.site_params.specs.declared.funnels.Bounds.{Bounds}
 use Rattle.site_params.specs.declared.funnels.Capture.{Capture}
 use Rattle.site_params.specs.declared.funnels.Threshold.{Threshold}

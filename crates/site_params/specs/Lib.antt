@@ -1,5 +1,4 @@
-pub mod Ranges
-pub mod Looks
+pub mod Parts
 pub mod Confirms
 pub mod Sets
 pub mod Regions

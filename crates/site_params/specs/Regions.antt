@@ -4,8 +4,8 @@ use Rattle.site_fields.specs.Kinds.{Reading, ◌>>=◌, Place}
 use Rattle.site_fields.specs.Numbers.{height}
 use Rattle.site_fields.specs.Pairs.{pairs}
 use Rattle.site_fields.specs.Entries.{optional_tables, named_entry, entries}
-use Rattle.site_params.specs.declared.ranges.TheConstants.{REGION_COUNT, LAYER_FEET, POINTS}
-use Rattle.site_params.specs.declared.airspace.Region.{Region}
+use Rattle.site_types.specs.declared.ranges.TheConstants.{REGION_COUNT, LAYER_FEET, POINTS}
+use Rattle.site_types.specs.declared.airspace.Region.{Region}
 
 -- a region, besides its name, where the sets have these names
 unfoldable pub region_of : List (List ℕ) → Place → Reading Region

@@ -3,9 +3,9 @@ use Rattle.std.specs.Prelude.{codes as key, ℤ, Bool, List, [], ◌∷◌, map,
 use Rattle.site_fields.specs.Kinds.{Reading, ◌>>=◌, Place, boolean}
 use Rattle.site_fields.specs.Numbers.{seconds, metres, height}
 use Rattle.site_fields.specs.Entries.{tables, name_of, entries}
-use Rattle.site_params.specs.declared.ranges.TheConstants.{SET_COUNT, LOOK_SECONDS, SEPARATION_METRES, SEPARATION_FEET, SPLIT_FEET}
+use Rattle.site_types.specs.declared.ranges.TheConstants.{SET_COUNT, LOOK_SECONDS, SEPARATION_METRES, SEPARATION_FEET, SPLIT_FEET}
 use Rattle.site_params.specs.declared.sets.NamedSets.{NamedSets}
-use Rattle.site_params.specs.declared.site.Set.{Set}
+use Rattle.site_types.specs.declared.site.Set.{Set}
 
 -- which nets a set enables
 unfoldable pub switches_of : Place → Reading (List Bool)

@@ -5,7 +5,7 @@ use Rattle.toml.specs.Data.{Members}
 use Rattle.toml.specs.Parse.{parse_document}
 use Rattle.site_fields.specs.declared.fault.SiteFault.TheVariants.{Syntax, Long}
 use Rattle.site_params.specs.declared.read.TheConstants.{SITE_ROOM}
-use Rattle.site_params.specs.declared.site.Site.{Site}
+use Rattle.site_types.specs.declared.site.Site.{Site}
 use Rattle.site_fields.specs.Kinds.{Reading, ◌>>=◌}
 use Rattle.site_params.specs.Fields.{site_of}
 

@@ -4,8 +4,8 @@ use Rattle.site_fields.specs.Kinds.{Reading, ◌>>=◌, Place}
 use Rattle.site_fields.specs.Numbers.{height}
 use Rattle.site_fields.specs.Pairs.{pairs, optional_pairs}
 use Rattle.site_fields.specs.Entries.{optional_tables, entries}
-use Rattle.site_params.specs.declared.ranges.TheConstants.{VOLUME_COUNT, LAYER_FEET, POINTS, ACTIVE_TIMES}
-use Rattle.site_params.specs.declared.airspace.Volume.{Volume}
+use Rattle.site_types.specs.declared.ranges.TheConstants.{VOLUME_COUNT, LAYER_FEET, POINTS, ACTIVE_TIMES}
+use Rattle.site_types.specs.declared.airspace.Volume.{Volume}
 
 -- a volume, besides its name
 unfoldable pub volume_of : Place → Reading Volume

@@ -3,12 +3,11 @@
 ghost use Rattle.std.specs.Prelude.{◌≡◌, ◌≢◌, IfOk, IfErr, Ok, Err, All};
 ghost use Rattle.site_fields.specs.declared.fault.SiteFault.TheVariants.{NoMemory};
 ghost use Rattle.site_fields.specs.Kinds.{place};
-ghost use Rattle.site_params.specs.Ranges.{IsConfirm};
+ghost use Rattle.site_types.specs.Ranges.{IsConfirm};
 ghost use Rattle.site_params.specs.Confirms.{confirm_of, confirm_list, confirm, confirms_of};
 
-use crate::ranges::{CONFIRM_CYCLES, HOLD_CYCLES};
-use crate::site::Confirm;
-use site_fields::{Field, Limits, Place, SiteFault, integers_of, within};
+use site_fields::{Field, Place, SiteFault, integers_of, within};
+use site_types::{CONFIRM_CYCLES, Confirm, HOLD_CYCLES, Limits};
 use std::alloc::Global;
 
 /// When a net's alert is on, by these numbers.

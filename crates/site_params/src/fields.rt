@@ -4,19 +4,23 @@
 ghost use Rattle.std.specs.Prelude.{◌≡◌, ◌≢◌, IfOk, IfErr, IfSome, Ok, Err};
 ghost use Rattle.site_fields.specs.declared.fault.SiteFault.TheVariants.{NoMemory};
 ghost use Rattle.site_fields.specs.Kinds.{place};
-ghost use Rattle.site_params.specs.Ranges.{IsCodes, IsFileName, IsGeneral, IsSite};
+ghost use Rattle.site_types.specs.Ranges.{IsCodes, IsFileName, IsSite};
+ghost use Rattle.site_params.specs.Parts.{IsGeneral};
 ghost use Rattle.site_params.specs.Fields.{general_of, codes_of, terrain_of, site_of};
 
 use crate::confirms::confirms_of;
-use crate::file_name::FileName;
 use crate::funnels::funnels_of;
-use crate::ranges::{CODES, CYCLE_SECONDS, DAY_SECONDS, FILE_NAME_LENGTH, QNH_FEET, VERSION};
 use crate::regions::regions_of;
 use crate::sets::sets_of;
-use crate::site::{Codes, Site};
 use crate::volumes::volumes_of;
 use site_fields::{Place, SiteFault, numbers_of};
+use site_types::{
+    CODES, CYCLE_SECONDS, Codes, DAY_SECONDS, FILE_NAME_LENGTH, FileName, Limits, QNH_FEET, Site,
+};
 use std::alloc::Global;
+
+/// The version of the site file.
+const VERSION: Limits = Limits { low: 1, high: 1 };
 
 /// The fields of the document that stand alone.
 #[derive(Clone, Copy)]

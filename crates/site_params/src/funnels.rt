@@ -3,15 +3,15 @@
 ghost use Rattle.std.specs.Prelude.{◌≡◌, ◌≢◌, IfOk, IfErr, Ok, Err};
 ghost use Rattle.site_fields.specs.declared.fault.SiteFault.TheVariants.{NoMemory};
 ghost use Rattle.site_fields.specs.Kinds.{place};
-ghost use Rattle.site_params.specs.Ranges.{IsDirection, IsThreshold, IsCapture, AreBounds, IsFunnel, AreFunnels};
+ghost use Rattle.site_types.specs.Ranges.{IsFunnel, AreFunnels};
+ghost use Rattle.site_params.specs.Parts.{IsDirection, IsThreshold, IsCapture, AreBounds};
 ghost use Rattle.site_params.specs.Funnels.{direction_of, threshold_of, capture_of, bounds_of, funnel_of, funnels_of};
 
-use crate::funnel::{Funnel, Funnels};
-use crate::ranges::{
-    BASE_FEET, CAPTURE_FEET, DIRECTION, ELEVATION_FEET, FUNNEL_COUNT, HALF_METRES, PLACE_METRES,
-    REACH_METRES, RISE_FEET, SIDE_METRES,
-};
 use site_fields::{Place, ReadEntry, SiteFault, entries_of};
+use site_types::{
+    BASE_FEET, CAPTURE_FEET, DIRECTION, ELEVATION_FEET, FUNNEL_COUNT, Funnel, Funnels, HALF_METRES,
+    PLACE_METRES, REACH_METRES, RISE_FEET, SIDE_METRES,
+};
 use std::alloc::Global;
 
 /// Where and which way to land, in the units of a funnel.

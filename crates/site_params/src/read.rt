@@ -2,13 +2,13 @@
 
 ghost use Rattle.std.specs.Prelude.{◌≡◌, ◌≢◌, IfOk, IfErr, Ok, Err};
 ghost use Rattle.site_fields.specs.declared.fault.SiteFault.TheVariants.{NoMemory};
-ghost use Rattle.site_params.specs.Ranges.{IsSite};
+ghost use Rattle.site_types.specs.Ranges.{IsSite};
 ghost use Rattle.site_params.specs.Site.{document, site_of_text};
 ghost use Rattle.toml.specs.View.{table_view};
 
 use crate::fields::site_of;
-use crate::site::Site;
 use site_fields::{Place, SiteFault};
+use site_types::Site;
 use std::alloc::Global;
 use toml::Table;
 

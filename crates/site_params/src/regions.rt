@@ -3,12 +3,11 @@
 ghost use Rattle.std.specs.Prelude.{◌≡◌, ◌≢◌, length, IfOk, IfErr, Ok, Err};
 ghost use Rattle.site_fields.specs.declared.fault.SiteFault.TheVariants.{NoMemory};
 ghost use Rattle.site_fields.specs.Kinds.{place};
-ghost use Rattle.site_params.specs.Ranges.{IsRegion, AreRegions};
+ghost use Rattle.site_types.specs.Ranges.{IsRegion, AreRegions};
 ghost use Rattle.site_params.specs.Regions.{region_of, regions_of};
 
-use crate::airspace::{Region, Regions};
-use crate::ranges::{LAYER_FEET, POINTS, REGION_COUNT};
 use site_fields::{Names, Place, ReadEntry, SiteFault, entries_of};
+use site_types::{LAYER_FEET, POINTS, REGION_COUNT, Region, Regions};
 use std::alloc::Global;
 
 /// Reads a region, where the sets have these names.

@@ -3,13 +3,16 @@
 ghost use Rattle.std.specs.Prelude.{◌≡◌, ◌≢◌, IfOk, IfErr, Ok, Err, All};
 ghost use Rattle.site_fields.specs.declared.fault.SiteFault.TheVariants.{NoMemory};
 ghost use Rattle.site_fields.specs.Kinds.{place};
-ghost use Rattle.site_fields.specs.Ranges.{IsIn};
-ghost use Rattle.site_params.specs.Ranges.{IsSet, IsNamedSets};
+ghost use Rattle.site_types.specs.Limits.{IsIn};
+ghost use Rattle.site_types.specs.Ranges.{IsSet};
+ghost use Rattle.site_params.specs.Parts.{IsNamedSets};
 ghost use Rattle.site_params.specs.Sets.{switches_of, looks_of, set_of, sets_of};
 
-use crate::ranges::{LOOK_SECONDS, SEPARATION_FEET, SEPARATION_METRES, SET_COUNT, SPLIT_FEET};
-use crate::site::{Set, Sets};
-use site_fields::{Names, Place, ReadEntry, SiteFault, TICKS_PER_SECOND, entries_of};
+use site_fields::{Names, Place, ReadEntry, SiteFault, entries_of};
+use site_types::{
+    LOOK_SECONDS, SEPARATION_FEET, SEPARATION_METRES, SET_COUNT, SPLIT_FEET, Set, Sets,
+    TICKS_PER_SECOND,
+};
 use std::alloc::Global;
 
 /// The parameter sets, and their names in the same order.

@@ -3,12 +3,11 @@
 ghost use Rattle.std.specs.Prelude.{◌≡◌, ◌≢◌, IfOk, IfErr, Ok, Err};
 ghost use Rattle.site_fields.specs.declared.fault.SiteFault.TheVariants.{NoMemory};
 ghost use Rattle.site_fields.specs.Kinds.{place};
-ghost use Rattle.site_params.specs.Ranges.{IsVolume, AreVolumes};
+ghost use Rattle.site_types.specs.Ranges.{IsVolume, AreVolumes};
 ghost use Rattle.site_params.specs.Volumes.{volume_of, volumes_of};
 
-use crate::airspace::{Volume, Volumes};
-use crate::ranges::{ACTIVE_TIMES, LAYER_FEET, POINTS, VOLUME_COUNT};
 use site_fields::{Place, ReadEntry, SiteFault, entries_of};
+use site_types::{ACTIVE_TIMES, LAYER_FEET, POINTS, VOLUME_COUNT, Volume, Volumes};
 use std::alloc::Global;
 
 /// Reads a volume.

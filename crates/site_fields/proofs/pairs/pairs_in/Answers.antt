@@ -1,7 +1,7 @@
 use Rattle.std.proofs.Common.{◌+◌, sym, ap}
 use Rattle.std.proofs.lemmas.List.{length_push}
 use Rattle.std.proofs.lemmas.List.Elements.{All-push}
-use Rattle.site_fields.specs.Ranges.{IsPair}
+use Rattle.site_types.specs.Limits.{IsPair}
 use Rattle.site_fields.specs.Pairs.{pair}
 use Rattle.site_fields.proofs.Each.{each-next}
 use Rattle.site_fields.proofs.pairs.pairs_in.Goals as goal

@@ -1,5 +1,5 @@
 use Rattle.std.proofs.Common.{◌≡◌, Ok, take, All, length}
-use Rattle.site_fields.specs.Ranges.{IsPair}
+use Rattle.site_types.specs.Limits.{IsPair}
 use Rattle.site_fields.specs.Lists.{each}
 use Rattle.site_fields.specs.Pairs.{pair}
 use Rattle.site_fields.proofs.pairs.pairs_in.Given as goal

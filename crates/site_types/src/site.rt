@@ -1,19 +1,15 @@
 //! What a site file sets.
-ghost use Rattle.std.specs.Prelude.{◌≡◌};
+ghost use Rattle.std.specs.Prelude.{◌≡◌, pos};
+ghost use Rattle.site_types.specs.Looks.{look_of};
+ghost use Rattle.site_types.specs.Nets.{enables, place};
+ghost use Rattle.site_types.specs.Ranges.{IsSet};
+ghost use Rattle.tick_sets.specs.Inequalities.{IsLook};
 
 use crate::airspace::{Regions, Volumes};
 use crate::file_name::FileName;
 use crate::funnel::Funnels;
+use crate::net::Net;
 use std::marker::Model;
-
-/// Where the nets stand in lists of four.
-pub const STCA: usize = 0;
-
-pub const MSAW: usize = 1;
-
-pub const APW: usize = 2;
-
-pub const APM: usize = 3;
 
 /// When a net's alert is on: after m hits in n cycles, and as long as a hit is at most `hold` cycles ago.
 #[derive(Clone, Copy, Debug, PartialEq, Eq)]
@@ -43,6 +39,24 @@ pub struct Set {
     pub now_v_high: i64,
     /// A hit is urgent where its first tick is at most this.
     pub urgent: i64,
+}
+
+impl Set {
+    /// The last tick that the set looks ahead to for the net.
+    pub fn look_ahead(&self, net: Net) -> i64
+        requires { IsSet self.now }
+        ensures look { result ≡ pos (look_of (place net) self.now) }
+        ensures range { IsLook result }
+    {
+        self.look[net.place()]
+    }
+
+    /// The set enables the net.
+    pub fn enables(&self, net: Net) -> bool
+        ensures { result ≡ enables net self.now }
+    {
+        self.enabled[net.place()]
+    }
 }
 
 /// Mode 3/A codes.
@@ -90,7 +104,7 @@ pub struct Sets {
 
 impl Model for Sets {
     ghost use Rattle.std.specs.Prelude.{List};
-    ghost use Rattle.site_params.specs.declared.site.Set.{Set};
+    ghost use Rattle.site_types.specs.declared.site.Set.{Set};
 
     ghost Value = { List Set };
 

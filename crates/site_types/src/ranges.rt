@@ -1,9 +1,7 @@
 //! The ranges of the fields.
 
-use site_fields::{LENGTH_UNITS_PER_METRE, Limits, ListLimits, PairLimits, TICKS_PER_SECOND};
-
-/// The version of the site file.
-pub const VERSION: Limits = Limits { low: 1, high: 1 };
+use crate::limits::{Limits, ListLimits, PairLimits};
+use crate::units::{LENGTH_UNITS_PER_METRE, TICKS_PER_SECOND};
 
 /// A second of the day.
 pub const DAY_SECONDS: Limits = Limits {

@@ -1,7 +1,7 @@
 //! Parts of the airspace that a site file sets: regions and volumes.
 ghost use Rattle.std.specs.Prelude.{◌≡◌};
 
-use site_fields::Pairs;
+use crate::pair_list::Pairs;
 use std::marker::Model;
 
 /// Where another parameter set holds than the first.
@@ -36,7 +36,7 @@ pub struct Regions {
 
 impl Model for Regions {
     ghost use Rattle.std.specs.Prelude.{List};
-    ghost use Rattle.site_params.specs.declared.airspace.Region.{Region};
+    ghost use Rattle.site_types.specs.declared.airspace.Region.{Region};
 
     ghost Value = { List Region };
 
@@ -74,7 +74,7 @@ pub struct Volumes {
 
 impl Model for Volumes {
     ghost use Rattle.std.specs.Prelude.{List};
-    ghost use Rattle.site_params.specs.declared.airspace.Volume.{Volume};
+    ghost use Rattle.site_types.specs.declared.airspace.Volume.{Volume};
 
     ghost Value = { List Volume };
 

@@ -41,7 +41,7 @@ pub struct Funnels {
 
 impl Model for Funnels {
     ghost use Rattle.std.specs.Prelude.{List};
-    ghost use Rattle.site_params.specs.declared.funnel.Funnel.{Funnel};
+    ghost use Rattle.site_types.specs.declared.funnel.Funnel.{Funnel};
 
     ghost Value = { List Funnel };
 
