@@ -2,16 +2,15 @@
 ghost use Rattle.std.specs.Prelude.{◌≡◌, ℕ, pos, ◌≤ℤ◌, IfOk, OnErr, option_map, unsigned_abs};
 ghost use Rattle.tick_sets.specs.Inequalities.{IsLook};
 ghost use Rattle.tick_sets.specs.Ticks.{AreTicksWhere};
-ghost use Rattle.site_params.specs.Ranges.{IsSet, IsVolume};
+ghost use Rattle.site_types.specs.Ranges.{IsSet, IsVolume};
 ghost use Rattle.track_motion.specs.Motions.{InRange};
 ghost use Rattle.airspace_volumes.specs.Apw.{CanBeHit, IsAheadInBand, IsInBand, apw_hit, first_inside as first_tick_inside};
 
 use crate::NoMemory;
 use crate::area::Area;
-use crate::limits::look_ahead;
 use crate::times::active;
 use polygon_plan::inside_ticks;
-use site_params::{Set, Volume};
+use site_types::{Net, Set, Volume};
 use std::alloc::Global;
 use tick_sets::laws::searches_find_the_first;
 use tick_sets::{TickHit, Ticks, linear, meet};
@@ -57,7 +56,7 @@ impl<'a> Area<'a> {
     {
         // The proof takes this law; the call does nothing.
         searches_find_the_first();
-        let look = look_ahead(set);
+        let look = set.look_ahead(Net::Apw);
         if self.passes_by(m, look) || !active(self.volume(), time) {
             return Ok(None);
         }

@@ -5,7 +5,6 @@ mod area;
 mod bounds;
 mod hit;
 pub mod laws;
-mod limits;
 mod times;
 
 pub use area::Area;

@@ -1,7 +1,7 @@
 //! Laws of the definitions: each is the contract of a function that does nothing.
 ghost use Rattle.std.specs.Prelude.{◌≡◌, ℕ, ◌+◌, ◌≤◌, true, false, List, [], ◌∷◌, length, map, count_by, All, Option, Some};
 ghost use Rattle.std.specs.List.Sorted.{IsStrictlySortedBy};
-ghost use Rattle.site_params.specs.declared.site.Confirm.{Confirm};
+ghost use Rattle.site_types.specs.declared.site.Confirm.{Confirm};
 ghost use Rattle.alert_states.specs.declared.event.Event.{Event};
 ghost use Rattle.alert_states.specs.declared.event.Hit.{Hit};
 ghost use Rattle.alert_states.specs.declared.event.Subject.{Subject};

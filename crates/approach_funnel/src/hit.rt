@@ -1,14 +1,13 @@
 //! Approach path monitor: whether a track is hit by an approach funnel.
 ghost use Rattle.std.specs.Prelude.{◌≡◌, ◌↔◌, IsTrue, Some, int_le};
-ghost use Rattle.site_params.specs.Ranges.{IsFunnel, IsSet};
+ghost use Rattle.site_types.specs.Ranges.{IsFunnel, IsSet};
 ghost use Rattle.track_motion.specs.Motions.{InRange};
 ghost use Rattle.approach_funnel.specs.Apm.{apm_hit};
 
 use crate::approach::Approach;
 use crate::course::Course;
 use crate::firsts::Firsts;
-use crate::limits::look_ahead;
-use site_params::{Funnel, Set};
+use site_types::{Funnel, Net, Set};
 use tick_sets::laws::searches_find_the_first;
 use track_motion::Motion;
 
@@ -50,7 +49,7 @@ impl<'a> Approach<'a> {
         // The proof takes this law; the call does nothing.
         searches_find_the_first();
         let course = Course::captured(m, self)?;
-        let firsts = Firsts::of(course, m, self, look_ahead(set));
+        let firsts = Firsts::of(course, m, self, set.look_ahead(Net::Apm));
         let first = firsts.least()?;
         Some(hit_from(firsts, first, set))
     }

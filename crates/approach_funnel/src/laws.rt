@@ -1,7 +1,7 @@
 //! Laws of the definitions: each is the contract of a function that does nothing, or takes another law.
 ghost use Rattle.std.specs.Prelude.{◌≡◌, ◌↔◌, IfSome, IsSome, IsTrue, pos, ◌≤ℤ◌};
-ghost use Rattle.site_params.specs.declared.funnel.Funnel.{Funnel};
-ghost use Rattle.site_params.specs.declared.site.Set.{Set};
+ghost use Rattle.site_types.specs.declared.funnel.Funnel.{Funnel};
+ghost use Rattle.site_types.specs.declared.site.Set.{Set};
 ghost use Rattle.track_motion.specs.declared.motion.Motion.{Motion};
 ghost use Rattle.approach_funnel.specs.Apm.{apm_hit};
 ghost use Rattle.approach_funnel.specs.Deviations.{AreFlags, IsFirst, IsHit};

@@ -6,7 +6,6 @@ mod course;
 mod firsts;
 mod hit;
 pub mod laws;
-mod limits;
 mod lines;
 mod units;
 

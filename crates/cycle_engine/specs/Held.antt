@@ -3,7 +3,7 @@ use Rattle.std.specs.Prelude.{◌≡◌, ℕ, List, [], length}
 use Rattle.alert_states.specs.Held as books
 use Rattle.alert_states.specs.declared.event.Hit.{Hit}
 use Rattle.cat004_write.specs.Blocks.{Packing, Packs}
-use Rattle.site_params.specs.declared.site.Site.{Site}
+use Rattle.site_types.specs.declared.site.Site.{Site}
 use Rattle.track_table.specs.declared.table.Frozen.{Frozen}
 use Rattle.track_table.specs.Proper.{IsProper}
 use Rattle.track_table.specs.Times.{cycle_time}

@@ -2,7 +2,7 @@
 ghost use Rattle.std.specs.Prelude.{◌≡◌, ◌+◌, ◌≤◌, [], IfOk, OnOk, IsErrOf};
 ghost use Rattle.outside_io.specs.Faults.{Rose};
 ghost use Rattle.cycle_workers.specs.Settings.{setting};
-ghost use Rattle.site_params.specs.Ranges.{IsSite};
+ghost use Rattle.site_types.specs.Ranges.{IsSite};
 ghost use Rattle.terrain_file.specs.Ranges.{IsTerrain};
 ghost use Rattle.cycle_engine.specs.Held.{IsTableOf, StandsFor};
 ghost use Rattle.cycle_engine.specs.Outcomes.{Answers, Keeps, Writes, WritesPrefix};
@@ -13,7 +13,7 @@ use alert_states::{Book, Event};
 use cat004_write::Packer;
 use cycle_workers::Nets;
 use outside_io::{Failed, Sink, Steps, write_whole};
-use site_params::Site;
+use site_types::Site;
 use std::alloc::{AllocError, Global};
 use std::marker::Model;
 use std::sync::ledger::Ledger;

@@ -1,7 +1,7 @@
 //! The hits of rows by the terrain.
 ghost use Rattle.std.specs.Prelude.{◌≡◌, [], ◌∷◌, ◌++◌, IfSome, OnOk};
 ghost use Rattle.alert_states.specs.Figures.{AreInRoom, FitsOctets};
-ghost use Rattle.site_params.specs.Ranges.{IsSet, IsSite};
+ghost use Rattle.site_types.specs.Ranges.{IsSet, IsSite};
 ghost use Rattle.terrain_file.specs.Ranges.{IsTerrain};
 ghost use Rattle.track_motion.specs.Motions.{InRange};
 ghost use Rattle.cycle_workers.specs.Hits.{hits_by, msaw_hit_by};
@@ -10,8 +10,8 @@ ghost use Rattle.cycle_workers.specs.Movers.{AreMovers};
 use crate::NoMemory;
 use crate::movers::Mover;
 use crate::rows::{set_of, tick_hit};
-use alert_states::{Hit, Net};
-use site_params::{Set, Site};
+use alert_states::Hit;
+use site_types::{Net, Set, Site};
 use terrain_cells::Ground;
 use tick_sets::laws::searches_find_the_first;
 

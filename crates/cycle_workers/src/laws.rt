@@ -2,8 +2,8 @@
 ghost use Rattle.std.specs.Prelude.{◌≡◌, ◌↔◌, ◌*◌, ◌-◌, length};
 ghost use Rattle.std.specs.List.{Contains};
 ghost use Rattle.alert_states.specs.declared.event.Hit.{Hit};
-ghost use Rattle.alert_states.specs.declared.event.Net.TheVariants.{Stca};
-ghost use Rattle.site_params.specs.declared.site.Site.{Site};
+ghost use Rattle.site_types.specs.declared.net.Net.TheVariants.{Stca};
+ghost use Rattle.site_types.specs.declared.site.Site.{Site};
 ghost use Rattle.track_table.specs.Proper.{IsProper};
 ghost use Rattle.track_table.specs.declared.table.Frozen.{Frozen};
 ghost use Rattle.cycle_workers.specs.Eligible.{movers};

@@ -1,6 +1,6 @@
 //! Laws of the definition of a hit: each is the contract of a function that does nothing.
 ghost use Rattle.std.specs.Prelude.{◌≡◌, ◌↔◌, IfSome, IsSome};
-ghost use Rattle.site_params.specs.declared.site.Set.{Set};
+ghost use Rattle.site_types.specs.declared.site.Set.{Set};
 ghost use Rattle.track_motion.specs.declared.motion.Motion.{Motion};
 ghost use Rattle.stca_fine.specs.Conflicts.{IsClosest, IsFirst, IsHit};
 ghost use Rattle.stca_fine.specs.Stca.{stca_hit};

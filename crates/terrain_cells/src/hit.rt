@@ -1,7 +1,7 @@
 //! Minimum safe altitude warning: whether a track is hit by a terrain.
 ghost use Rattle.std.specs.Prelude.{◌≡◌, pos};
 ghost use Rattle.tick_sets.specs.Inequalities.{IsLook};
-ghost use Rattle.site_params.specs.Ranges.{IsSet};
+ghost use Rattle.site_types.specs.Ranges.{IsSet};
 ghost use Rattle.terrain_file.specs.Ranges.{IsTerrain};
 ghost use Rattle.track_motion.specs.Motions.{InRange};
 ghost use Rattle.terrain_cells.specs.Msaw.{is_too_low_at, msaw_hit};
@@ -10,8 +10,7 @@ ghost use Rattle.terrain_cells.specs.Walks.{AreTicks, FindsFrom};
 use crate::axis::{Axis, Stay};
 use crate::ground::Ground;
 use crate::height::{first_under, height_in};
-use crate::limits::look_ahead;
-use site_params::Set;
+use site_types::{Net, Set};
 use terrain_file::Terrain;
 use tick_sets::TickHit;
 use tick_sets::laws::searches_find_the_first;
@@ -38,7 +37,7 @@ impl<'a> Ground<'a> {
     {
         // The proof takes this law; the call does nothing.
         searches_find_the_first();
-        let first = first_too_low(m, self, look_ahead(set))?;
+        let first = first_too_low(m, self, set.look_ahead(Net::Msaw))?;
         Some(TickHit::from_tick(first, set.urgent))
     }
 }

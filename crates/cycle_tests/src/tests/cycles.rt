@@ -1,13 +1,13 @@
 //! Cycles over a sink in memory. The bytes are worked out by hand from the layout of messages and blocks.
 ghost use Rattle.std.specs.Prelude.{◌≡◌, ◌<◌, IfOk};
-ghost use Rattle.site_params.specs.Ranges.{IsSite};
+ghost use Rattle.site_types.specs.Ranges.{IsSite};
 ghost use Rattle.cycle_engine.specs.Held.{IsTableOf};
 
 use super::rows::{are_in_order, are_movable};
 use super::sites::site_of;
 use cycle_engine::{CycleDone, CycleFault, Engine, NoMemory};
 use outside_io::{MemSink, Steps};
-use site_params::Site;
+use site_types::Site;
 use std::alloc::Global;
 use std::marker::Brand;
 use std::process::Abort;

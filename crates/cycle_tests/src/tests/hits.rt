@@ -1,6 +1,6 @@
 //! Rows and hits of cycles, each answer worked out by hand.
 ghost use Rattle.std.specs.Prelude.{◌≡◌, ◌<◌, IfOk};
-ghost use Rattle.site_params.specs.Ranges.{IsSite};
+ghost use Rattle.site_types.specs.Ranges.{IsSite};
 ghost use Rattle.terrain_file.specs.Ranges.{IsTerrain};
 ghost use Rattle.cycle_workers.specs.Movers.{IsCycleTable};
 
@@ -9,7 +9,7 @@ use super::sites::site_of;
 use alert_states::{CURRENT_PROXIMITY, Hit, HitData, Net, Subject, URGENT};
 use cycle_workers::{Hits, Mover, NoMemory, eligible, hits_one};
 use outside_io::Steps;
-use site_params::Site;
+use site_types::Site;
 use std::alloc::{AllocError, Global};
 use std::marker::Brand;
 use std::process::Abort;

@@ -1,8 +1,9 @@
 //! Sites of texts.
 ghost use Rattle.std.specs.Prelude.{IfOk};
-ghost use Rattle.site_params.specs.Ranges.{IsSite};
+ghost use Rattle.site_types.specs.Ranges.{IsSite};
 
-use site_params::{Site, SiteFault, read_site};
+use site_params::{SiteFault, read_site};
+use site_types::Site;
 use std::alloc::{AllocError, Global};
 use std::process::Abort;
 

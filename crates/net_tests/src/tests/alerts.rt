@@ -2,7 +2,7 @@
 ghost use Rattle.std.specs.Prelude.{◌≤◌};
 
 use alert_states::{Book, Event, Hit, HitData, Net, NoMemory, Status, Subject, URGENT};
-use site_params::Confirm;
+use site_types::Confirm;
 use std::alloc::Global;
 use std::process::Abort;
 use std::test::Fail;

@@ -1,11 +1,11 @@
 // Expected values are worked out by hand: a tick is 1/128 s, a metre 512 units, and 25 ft are 30,720.
 ghost use Rattle.std.specs.Prelude.{◌≡◌, ◌≤ℤ◌, All, IsTrue, pos};
-ghost use Rattle.site_params.specs.Ranges.{IsFunnel, IsSet};
+ghost use Rattle.site_types.specs.Ranges.{IsFunnel, IsSet};
 ghost use Rattle.track_motion.specs.Motions.{InRange};
 
 use super::sets::{SITE, expect_set};
 use approach_funnel::{Approach, FunnelHit, apm};
-use site_params::{Funnel, Set};
+use site_types::{Funnel, Set};
 use std::process::Abort;
 use track_motion::Motion;
 

@@ -1,13 +1,13 @@
 // Expected values are worked out by hand: a tick is 1/128 s, a metre 512 units, and 25 ft are 30,720.
 ghost use Rattle.std.specs.Prelude.{◌≤ℤ◌, All, IfSome, IsTrue, pos};
-ghost use Rattle.site_fields.specs.Ranges.{IsPair};
-ghost use Rattle.site_params.specs.Ranges.{AreTimes, IsPolygon, IsSet, IsVolume};
+ghost use Rattle.site_types.specs.Limits.{IsPair};
+ghost use Rattle.site_types.specs.Ranges.{AreTimes, IsPolygon, IsSet, IsVolume};
 ghost use Rattle.track_motion.specs.Motions.{InRange};
-ghost use Rattle.site_params.specs.declared.ranges.TheConstants.{ACTIVE_TIMES, POINTS};
+ghost use Rattle.site_types.specs.declared.ranges.TheConstants.{ACTIVE_TIMES, POINTS};
 
 use super::sets::{SITE, expect_set};
 use airspace_volumes::{Bounds, NoMemory, active, apw};
-use site_params::{Pairs, Set, Volume};
+use site_types::{Pairs, Set, Volume};
 use std::alloc::Global;
 use std::process::Abort;
 use std::test::Fail;

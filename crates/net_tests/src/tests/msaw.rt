@@ -1,10 +1,10 @@
 // Expected values are worked out by hand: a tick is 1/128 s, a metre 512 units, and 25 ft are 30,720.
-ghost use Rattle.site_params.specs.Ranges.{IsSet};
+ghost use Rattle.site_types.specs.Ranges.{IsSet};
 ghost use Rattle.terrain_file.specs.Ranges.{IsTerrain};
 ghost use Rattle.track_motion.specs.Motions.{InRange};
 
 use super::sets::{SITE, expect_set};
-use site_params::{MSAW, Set};
+use site_types::{MSAW, Set};
 use std::alloc::{AllocError, Global};
 use std::process::Abort;
 use std::test::Fail;

@@ -1,11 +1,11 @@
 //! The parameter set of the nets' tests, and whether one is in range.
 ghost use Rattle.std.specs.Prelude.{All, IsTrue};
-ghost use Rattle.site_fields.specs.Ranges.{IsIn};
-ghost use Rattle.site_fields.specs.declared.numbers.TheConstants.{TICKS_PER_SECOND};
-ghost use Rattle.site_params.specs.Ranges.{IsSet};
-ghost use Rattle.site_params.specs.declared.ranges.TheConstants.{LOOK_SECONDS};
+ghost use Rattle.site_types.specs.Limits.{IsIn};
+ghost use Rattle.site_types.specs.declared.units.TheConstants.{TICKS_PER_SECOND};
+ghost use Rattle.site_types.specs.Ranges.{IsSet};
+ghost use Rattle.site_types.specs.declared.ranges.TheConstants.{LOOK_SECONDS};
 
-use site_params::Set;
+use site_types::Set;
 use std::process::Abort;
 
 /// 9,260 m and 800 or 1,000 ft ahead, 4,630 m and 500 or 600 ft now; 120 s ahead in STCA and 60 s in the other nets,

@@ -1,11 +1,11 @@
 // Expected values are worked out by hand: distances along one axis, and squares of whole numbers.
 ghost use Rattle.std.specs.Prelude.{◌≡◌, ◌<◌};
-ghost use Rattle.site_params.specs.Ranges.{IsSet};
+ghost use Rattle.site_types.specs.Ranges.{IsSet};
 ghost use Rattle.stca_fine.specs.Relative.{ArePair};
 
 use super::sets::{SITE, expect_set};
 use outside_io::Steps;
-use site_params::Set;
+use site_types::Set;
 use stca_fine::{StcaHit, examine};
 use std::marker::Brand;
 use std::process::Abort;

@@ -1,6 +1,6 @@
 //! Rows in regions, and rows that volumes hit.
 ghost use Rattle.std.specs.Prelude.{IfOk};
-ghost use Rattle.site_params.specs.Ranges.{IsSite};
+ghost use Rattle.site_types.specs.Ranges.{IsSite};
 
 use super::*;
 

@@ -1,11 +1,12 @@
 //! Rows over a terrain, and on an approach.
 ghost use Rattle.std.specs.Prelude.{IfOk};
-ghost use Rattle.site_params.specs.Ranges.{IsSite};
+ghost use Rattle.site_types.specs.Ranges.{IsSite};
 ghost use Rattle.terrain_file.specs.Ranges.{IsTerrain};
 
 use super::{NoMemory, OTHER, REST, SITE_A, found_over, site_of, table_of};
 use alert_states::{BELOW, Hit, HitData, Net, Subject, URGENT};
-use site_params::{Site, TerrainFault, read_terrain};
+use site_params::{TerrainFault, read_terrain};
+use site_types::Site;
 use std::alloc::{AllocError, Global};
 use std::process::Abort;
 use std::test::Fail;

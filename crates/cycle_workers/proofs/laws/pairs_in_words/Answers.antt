@@ -1,4 +1,4 @@
-use Rattle.alert_states.specs.declared.event.Net.TheVariants.{Stca}
+use Rattle.site_types.specs.declared.net.Net.TheVariants.{Stca}
 use Rattle.cycle_workers.specs.Eligible.{movers}
 use Rattle.cycle_workers.proofs.Members.{pairs_said}
 use Rattle.cycle_workers.proofs.laws.pairs_in_words.Goals as goal

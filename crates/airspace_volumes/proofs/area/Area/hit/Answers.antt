@@ -1,7 +1,7 @@
 use Rattle.std.proofs.Common.{rules, ◌≡◌, sym, ap, ◌∙◌, ℕ, pos, ◌<◌, true, true≢false, Some, Result, Ok, Err, IfOk, OnErr, option_map, length, unsigned_abs, FitsSigned, to_z, of_z, arith, w64}
 use Rattle.std.proofs.lemmas.Int.{ints, to_z-of_z}
-use Rattle.site_params.specs.Looks.{look_of}
-use Rattle.site_params.specs.declared.site.TheConstants.{APW}
+use Rattle.site_types.specs.Looks.{look_of}
+use Rattle.site_types.specs.declared.net.TheConstants.{APW}
 use Rattle.airspace_volumes.specs.Active.{is_active}
 use Rattle.airspace_volumes.specs.Apw.{CanBeHit, first_inside}
 use Rattle.airspace_volumes.proofs.Hits.{active_same, ahead_same, found_same, hit_found, no_hit_asleep, no_hit_beside, no_hit_found}

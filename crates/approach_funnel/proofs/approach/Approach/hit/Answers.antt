@@ -1,7 +1,7 @@
 use Rattle.std.proofs.Common.{rules, sym, ◌∙◌, w64, FitsSigned}
 use Rattle.std.proofs.lemmas.Int.{to_z-of_z}
-use Rattle.site_params.specs.Looks.{look_of}
-use Rattle.site_params.specs.declared.site.TheConstants.{APM}
+use Rattle.site_types.specs.Looks.{look_of}
+use Rattle.site_types.specs.declared.net.TheConstants.{APM}
 use Rattle.approach_funnel.specs.Firsts.{AreFirsts}
 use Rattle.approach_funnel.proofs.Whole.{hit_is, least_finds, no_hit_inside}
 use Rattle.approach_funnel.proofs.approach.Approach.hit.Goals as goal

@@ -1,9 +1,9 @@
 use Rattle.std.proofs.Common.{◌≡◌, ◌∙◌, ◌++◌, ap, List, rules, w64, to_z, of_z}
 use Rattle.std.proofs.lemmas.Int.{to_z-of_z}
 use Rattle.alert_states.specs.declared.event.Hit.{Hit}
-use Rattle.alert_states.specs.declared.event.Net.{Net}
-use Rattle.alert_states.specs.declared.event.Net.TheVariants.{Stca}
-use Rattle.site_params.specs.declared.site.Site.{Site}
+use Rattle.site_types.specs.declared.net.Net.{Net}
+use Rattle.site_types.specs.declared.net.Net.TheVariants.{Stca}
+use Rattle.site_types.specs.declared.site.Site.{Site}
 use Rattle.cycle_workers.specs.Eligible.{enabled, movers, watched}
 use Rattle.cycle_workers.specs.Hits.{count_pairs, hits_of, stca_hits}
 use Rattle.cycle_workers.proofs.Keys.{few}

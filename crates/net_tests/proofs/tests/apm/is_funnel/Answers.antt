@@ -1,7 +1,7 @@
 use Rattle.std.proofs.Common.{rules, pos, negsuc, ◌≤ℤ◌, ℤ, lit<, arith, w64, SFits, to_z, of_z}
 use Rattle.std.proofs.lemmas.Int.{ints, to_z-of_z}
-use Rattle.site_fields.specs.Ranges.{IsHeight}
-use Rattle.site_params.specs.declared.ranges.TheConstants.{CAPTURE_FEET}
+use Rattle.site_types.specs.Limits.{IsHeight}
+use Rattle.site_types.specs.declared.ranges.TheConstants.{CAPTURE_FEET}
 use Rattle.net_tests.proofs.tests.apm.is_funnel.Goals as goal
 
 -- a value stays what it is in 64 bits
