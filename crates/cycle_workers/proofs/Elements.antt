@@ -1,5 +1,5 @@
 -- What is among the elements of a list, by recursion.
-use Rattle.std.proofs.Common.{◌≡◌, ◌∙◌, refl, ap, subst, ◌⊎◌, inl, inr, List, [], ◌∷◌, ◌++◌, Option, Some, None}
+use Rattle.std.proofs.Common.{◌≡◌, ◌∙◌, refl, ap, subst, ◌⊎◌, inl, inr, List, [], ◌∷◌, ◌++◌, Option, Some, None, arith}
 use Rattle.std.specs.List.{Contains, cons_option, filter_map}
 use Rattle.std.proofs.lemmas.List.Elements.{Contains-append_cases, Contains-append_left, Contains-append_right, Contains-push, Contains-push_cases}
 
@@ -54,8 +54,8 @@ option_in (Some z) rest x (inr h) = inr h
 pub in_found : {X Y : Type 0} (f : X → Option Y) (xs : List X) (y : Y) → In y (filter_map f xs) → (x : X) × In x xs × (f x ≡ Some y)
 in_found f [] y h = absurd h
 in_found f (x ∷ xs) y h = elim (in_option (f x) (filter_map f xs) y h) [
-  | inl is ↦ (x, (inl refl, is))
-  | inr rest ↦ (let one = in_found f xs y rest in (one.0, (inr one.1, one.2)))
+  | inl is ↦ (x, inl refl, is)
+  | inr rest ↦ (let one = in_found f xs y rest in (one.0, inr one.1, one.2))
 ]
 
 pub found_in : {X Y : Type 0} (f : X → Option Y) (xs : List X) (x : X) (y : Y) → In x xs → f x ≡ Some y → In y (filter_map f xs)

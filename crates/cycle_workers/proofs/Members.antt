@@ -128,8 +128,8 @@ module _ {O : Type 0} (site : Site) (hit_by : Set → Mover → ℕ × O → Opt
   in_rows : (movers : List Mover) (hit : Hit) → In hit (hits_by site hit_by objects movers) → (m : Mover) × In m movers × IsBy m hit
   in_rows [] hit h = absurd h
   in_rows (m ∷ others) hit h = elim (in_append (row_hits site hit_by objects m) (hits_by site hit_by objects others) hit h) [
-    | inl first ↦ (m, (inl refl, in_row_at m hit (slice_get site.sets m.set) refl first))
-    | inr rest ↦ (let one = in_rows others hit rest in (one.0, (inr one.1, one.2)))
+    | inl first ↦ (m, inl refl, in_row_at m hit (slice_get site.sets m.set) refl first)
+    | inr rest ↦ (let one = in_rows others hit rest in (one.0, inr one.1, one.2))
   ]
 
   rows_in : (movers : List Mover) (hit : Hit) (m : Mover) → In m movers → IsBy m hit → In hit (hits_by site hit_by objects movers)
@@ -158,16 +158,16 @@ module _ {O : Type 0} (site : Site) (hit_by : Set → Mover → ℕ × O → Opt
 -- ---- all hits
 
 module _ (s : Setting) (frozen : Frozen) (hit : Hit) (proper : IsProper frozen) where
-  pairs : List Hit
+  abbrev pairs : List Hit
   pairs = stca_hits s.site (movers s.site Stca frozen)
 
-  hills : List Hit
+  abbrev hills : List Hit
   hills = hits_by s.site msaw_hit_by (s.terrain ∷ []) (movers s.site Msaw frozen)
 
-  volumes : List Hit
+  abbrev volumes : List Hit
   volumes = hits_by s.site (apw_hit_by frozen.time) s.site.volumes (movers s.site Apw frozen)
 
-  funnels : List Hit
+  abbrev funnels : List Hit
   funnels = hits_by s.site apm_hit_by s.site.funnels (movers s.site Apm frozen)
 
   said : In hit (hits_of s frozen) → IsHitOf s frozen hit
