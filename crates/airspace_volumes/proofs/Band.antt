@@ -7,7 +7,7 @@ use Rattle.tick_sets.specs.Ticks.{Has, IsProper, AreTicksWhere}
 use Rattle.tick_sets.specs.declared.Ticks.{Ticks}
 use Rattle.track_motion.specs.declared.motion.Motion.{Motion}
 use Rattle.airspace_volumes.specs.Apw.{IsInBand, is_in_band_at}
-use Rattle.site_params.specs.declared.airspace.Volume.{Volume}
+use Rattle.site_types.specs.declared.airspace.Volume.{Volume}
 use Rattle.airspace_volumes.proofs.Courses.{le_fact, le_true}
 use Rattle.airspace_volumes.proofs.Products.{minus_times}
 

@@ -2,9 +2,9 @@
 use Rattle.std.proofs.Common.{◌≡◌, refl, sym, ap, ◌∙◌, ℕ, ℤ, pos, ◌≤ℤ◌, Bool, true, false, if◌then◌else◌, Option, Some, None, Result, Ok, Err, IfOk, IfSome, IfNone, OnErr, option_map, unsigned_abs, arith}
 use Rattle.std.proofs.lemmas.Bool.{and_from, and_left, and_parts, false_from_ne_true}
 use Rattle.std.proofs.lemmas.Int.{ints}
-use Rattle.site_params.specs.Looks.{look_of}
-use Rattle.site_params.specs.declared.site.Set.{Set}
-use Rattle.site_params.specs.declared.site.TheConstants.{APW}
+use Rattle.site_types.specs.Looks.{look_of}
+use Rattle.site_types.specs.declared.site.Set.{Set}
+use Rattle.site_types.specs.declared.net.TheConstants.{APW}
 use Rattle.tick_sets.specs.Inequalities.{IsLook}
 use Rattle.tick_sets.specs.Searches.{hit_from}
 use Rattle.tick_sets.specs.Ticks.{Has, AreTicksWhere, IsFirstTick}
@@ -15,7 +15,7 @@ use Rattle.polygon_plan.specs.Inside.{IsInsideAt}
 use Rattle.airspace_volumes.specs.Active.{is_active}
 use Rattle.airspace_volumes.specs.Apw.{IsAheadInBand, IsInBand, apw_hit, first_inside, is_inside_at}
 use Rattle.airspace_volumes.specs.Bounds.{PassesBy}
-use Rattle.site_params.specs.declared.airspace.Volume.{Volume}
+use Rattle.site_types.specs.declared.airspace.Volume.{Volume}
 use Rattle.airspace_volumes.proofs.Band.{band_fact, band_true}
 use Rattle.airspace_volumes.proofs.Outside.{never_inside}
 use Rattle.airspace_volumes.proofs.Searches.{OnlyThatIsFound}

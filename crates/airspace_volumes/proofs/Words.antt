@@ -2,10 +2,10 @@
 use Rattle.std.proofs.Common.{◌≡◌, ◌↔◌, refl, sym, ◌∙◌, inl, inr, ℕ, ◌≤◌, ℤ, pos, ◌≤ℤ◌, ◌<ℤ◌, Bool, true, false, true≢false, cond, if◌then◌else◌, ◌||◌, ◌&&◌, int_le, int_lt, Option, Some, None, IsSome, IsTrue, IfSome, option_map, List, arith}
 use Rattle.std.proofs.lemmas.Bool.{and_from, and_parts, cases_lt, or_cases, or_left, or_right}
 use Rattle.std.proofs.lemmas.Int.{ints}
-use Rattle.site_params.specs.declared.airspace.Volume.{Volume}
-use Rattle.site_params.specs.Looks.{look_of}
-use Rattle.site_params.specs.declared.site.Set.{Set}
-use Rattle.site_params.specs.declared.site.TheConstants.{APW}
+use Rattle.site_types.specs.declared.airspace.Volume.{Volume}
+use Rattle.site_types.specs.Looks.{look_of}
+use Rattle.site_types.specs.declared.site.Set.{Set}
+use Rattle.site_types.specs.declared.net.TheConstants.{APW}
 use Rattle.tick_sets.specs.Searches.{Finds, hit_from}
 use Rattle.tick_sets.specs.declared.TickHit.{TickHit}
 use Rattle.track_motion.specs.declared.motion.Motion.{Motion}

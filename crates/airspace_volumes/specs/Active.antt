@@ -2,7 +2,7 @@
 use Rattle.std.specs.Prelude.{◌%◌, unsigned_abs, ℤ, pos, Bool, true, ◌&&◌, ◌||◌, int_le, int_lt, List, option_map, unwrap_or, if◌then◌else◌}
 use Rattle.std.specs.List.{list_any}
 use Rattle.track_motion.specs.declared.track.TheConstants.{TICKS_PER_DAY}
-use Rattle.site_params.specs.declared.airspace.Volume.{Volume}
+use Rattle.site_types.specs.declared.airspace.Volume.{Volume}
 
 -- ticks since midnight, of a time that counts on
 abbrev pub time_of_day : ℤ → ℤ

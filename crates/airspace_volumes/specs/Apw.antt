@@ -4,14 +4,14 @@ use Rattle.std.specs.Prelude.{ℕ, ◌≤◌, Bool, ◌&&◌, IsTrue, int_le, fi
 use Rattle.tick_sets.specs.Inequalities.{line_at}
 use Rattle.tick_sets.specs.Searches.{hit_from, ticks_to}
 use Rattle.tick_sets.specs.declared.TickHit.{TickHit}
-use Rattle.site_params.specs.Looks.{look_of}
-use Rattle.site_params.specs.declared.site.Set.{Set}
-use Rattle.site_params.specs.declared.site.TheConstants.{APW}
+use Rattle.site_types.specs.Looks.{look_of}
+use Rattle.site_types.specs.declared.site.Set.{Set}
+use Rattle.site_types.specs.declared.net.TheConstants.{APW}
 use Rattle.track_motion.specs.declared.motion.Motion.{Motion}
 use Rattle.polygon_plan.specs.Inside.{inside_at}
 use Rattle.airspace_volumes.specs.Active.{is_active}
 use Rattle.airspace_volumes.specs.Bounds.{PassesBy}
-use Rattle.site_params.specs.declared.airspace.Volume.{Volume}
+use Rattle.site_types.specs.declared.airspace.Volume.{Volume}
 
 -- at a tick the level is from the floor to the ceiling, both included
 abbrev pub is_in_band_at : Motion → Volume → ℤ → Bool

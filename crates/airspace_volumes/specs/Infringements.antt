@@ -1,9 +1,9 @@
 -- Area proximity warning in words: when a volume is active, when a track is hit by it, and what the first tick of the hit is (this project's profile).
 use Rattle.std.specs.Prelude.{◌≡◌, ◌⊎◌, ℕ, ◌≤◌, IsTrue, ℤ, pos, ◌≤ℤ◌, ◌<ℤ◌}
-use Rattle.site_params.specs.declared.airspace.Volume.{Volume}
-use Rattle.site_params.specs.Looks.{look_of}
-use Rattle.site_params.specs.declared.site.Set.{Set}
-use Rattle.site_params.specs.declared.site.TheConstants.{APW}
+use Rattle.site_types.specs.declared.airspace.Volume.{Volume}
+use Rattle.site_types.specs.Looks.{look_of}
+use Rattle.site_types.specs.declared.site.Set.{Set}
+use Rattle.site_types.specs.declared.net.TheConstants.{APW}
 use Rattle.track_motion.specs.declared.motion.Motion.{Motion}
 use Rattle.polygon_plan.specs.Inside.{IsInsideAt}
 use Rattle.airspace_volumes.specs.Active.{is_active}

@@ -5,7 +5,7 @@ ghost use Rattle.track_motion.specs.Motions.{InRange};
 ghost use Rattle.airspace_volumes.specs.Bounds.{PassesBy};
 
 use crate::bounds::Bounds;
-use site_params::Volume;
+use site_types::Volume;
 use std::marker::Model;
 use track_motion::Motion;
 
@@ -17,7 +17,7 @@ pub struct Area<'a> {
 }
 
 impl<'a> Model for Area<'a> {
-    ghost use Rattle.site_params.specs.declared.airspace.Volume.{Volume};
+    ghost use Rattle.site_types.specs.declared.airspace.Volume.{Volume};
     ghost use Rattle.airspace_volumes.specs.Bounds.{AreBoundsOf};
 
     ghost Value = { Volume };

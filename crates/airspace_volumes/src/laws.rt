@@ -1,7 +1,7 @@
 //! Laws of the definitions: each is the contract of a function that does nothing.
 ghost use Rattle.std.specs.Prelude.{◌↔◌, ℕ, ◌≤◌, ℤ, pos, List, IfSome, IsSome, IsTrue};
-ghost use Rattle.site_params.specs.declared.airspace.Volume.{Volume};
-ghost use Rattle.site_params.specs.declared.site.Set.{Set};
+ghost use Rattle.site_types.specs.declared.airspace.Volume.{Volume};
+ghost use Rattle.site_types.specs.declared.site.Set.{Set};
 ghost use Rattle.track_motion.specs.declared.motion.Motion.{Motion};
 ghost use Rattle.polygon_plan.specs.Inside.{IsInsideAt};
 ghost use Rattle.airspace_volumes.specs.Active.{holds_time};

@@ -5,7 +5,6 @@ mod area;
 mod bounds;
 mod hit;
 pub mod laws;
-mod limits;
 mod times;
 
 pub use area::Area;
@@ -13,6 +12,3 @@ pub use bounds::Bounds;
 pub use hit::apw;
 pub use polygon_plan::NoMemory;
 pub use times::active;
-
-#[cfg(test)]
-mod tests;

@@ -2,7 +2,7 @@
 ghost use Rattle.std.specs.Prelude.{◌≡◌, ℤ, pos, ◌≤ℤ◌};
 ghost use Rattle.airspace_volumes.specs.Active.{holds_some, holds_time, is_active, time_of_day as day_time};
 
-use site_params::Volume;
+use site_types::Volume;
 use track_motion::TICKS_PER_DAY;
 
 /// Whether the volume is active at a time, which counts on over midnight, in ticks of 1/128 s.

@@ -4,7 +4,7 @@ use Rattle.std.proofs.lemmas.List.Elements.{All-cons, All-head, All-nil, All-tai
 use Rattle.std.specs.Prelude.{◌%◌, All, IfSome}
 use Rattle.std.specs.List.{cons_option, filter_map, find}
 use Rattle.std.specs.Ordering.{eq_by_cmp}
-use Rattle.site_params.specs.declared.site.Confirm.{Confirm}
+use Rattle.site_types.specs.declared.site.Confirm.{Confirm}
 use Rattle.alert_states.specs.declared.event.Event.{Event}
 use Rattle.alert_states.specs.declared.event.Hit.{Hit}
 use Rattle.alert_states.specs.declared.event.HitData.{HitData}

@@ -3,7 +3,7 @@ use Rattle.std.proofs.Common.{◌≡◌, ℕ, ◌+◌, ◌%◌, Bool, true, fals
 use Rattle.std.specs.Prelude.{filter}
 use Rattle.std.specs.List.{cons_option, filter_map}
 use Rattle.std.proofs.Math.Nat.{mod-add-mod}
-use Rattle.site_params.specs.declared.site.Confirm.{Confirm}
+use Rattle.site_types.specs.declared.site.Confirm.{Confirm}
 use Rattle.alert_states.specs.declared.entry.Entry.{Entry}
 use Rattle.alert_states.specs.declared.entry.Update.{Update}
 use Rattle.alert_states.specs.declared.event.Event.{Event}

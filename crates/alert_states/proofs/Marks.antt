@@ -1,7 +1,7 @@
 -- A subject's marks: what is on is live, and how the bits tell both, a cycle later.
 use Rattle.std.proofs.Common.{◌≡◌, ℕ, zero, suc, ◌+◌, ◌%◌, ◌^◌, ◌≤◌, Bool, true, false, not, ◌&&◌, ◌||◌, ◌==◌, List, [], ◌∷◌, take, count_ones, nat_le, is_some, Option, Some, None, refl, ap, ◌∙◌, arith}
 use Rattle.std.specs.List.{list_any}
-use Rattle.site_params.specs.declared.site.Confirm.{Confirm}
+use Rattle.site_types.specs.declared.site.Confirm.{Confirm}
 use Rattle.alert_states.specs.declared.event.Hit.{Hit}
 use Rattle.alert_states.specs.States.{begins, holds, is_live, is_on, window}
 use Rattle.alert_states.specs.Steps.{begins_by, hits_after, on_after}

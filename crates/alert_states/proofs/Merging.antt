@@ -2,7 +2,7 @@
 use Rattle.std.proofs.Common.{◌≡◌, ℕ, ◌+◌, ◌-◌, List, [], ◌∷◌, ◌++◌, length, drop, take, Option, Some, None, slice_get, refl, ap, sym, ◌∙◌, append_assoc, arith, length-drop}
 use Rattle.std.proofs.lemmas.List.{append-nil, drop-drop, take_all}
 use Rattle.std.specs.List.{cons_option}
-use Rattle.site_params.specs.declared.site.Confirm.{Confirm}
+use Rattle.site_types.specs.declared.site.Confirm.{Confirm}
 use Rattle.std.specs.declared.cmp.Ordering.TheVariants.{Less, Greater}
 use Rattle.alert_states.specs.declared.entry.Entry.{Entry}
 use Rattle.alert_states.specs.declared.entry.Update.{Update}

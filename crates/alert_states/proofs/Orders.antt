@@ -7,10 +7,11 @@ use Rattle.std.specs.Cmp.{IsTotalOrder, tied_itself}
 use Rattle.std.proofs.lemmas.Cmp.{nat_cmp_total, on_total, ranked, then_total}
 use Rattle.track_motion.specs.declared.track.TrackKey.{TrackKey}
 use Rattle.track_motion.specs.Keys.{key_cmp}
-use Rattle.alert_states.specs.declared.event.Net.{Net}
-use Rattle.alert_states.specs.declared.event.Net.TheVariants.{Stca, Msaw, Apw, Apm}
+use Rattle.site_types.specs.declared.net.Net.{Net}
+use Rattle.site_types.specs.declared.net.Net.TheVariants.{Stca, Msaw, Apw, Apm}
 use Rattle.alert_states.specs.declared.event.Subject.{Subject}
-use Rattle.alert_states.specs.Subjects.{place, subject_cmp}
+use Rattle.alert_states.specs.Subjects.{subject_cmp}
+use Rattle.site_types.specs.Nets.{place}
 
 then_equal : (a b : Ordering) → ordering_then a b ≡ Equal → (a ≡ Equal) × (b ≡ Equal)
 then_equal Less b e = absurd (cc)

@@ -4,7 +4,7 @@ use Rattle.std.specs.Prelude.{filter}
 use Rattle.std.specs.List.{cons_option, filter_map, list_any}
 use Rattle.std.specs.Ordering.{is_eq}
 use Rattle.std.proofs.lemmas.Bool.Decides.{nat_tests}
-use Rattle.site_params.specs.declared.site.Confirm.{Confirm}
+use Rattle.site_types.specs.declared.site.Confirm.{Confirm}
 use Rattle.alert_states.specs.declared.entry.Entry.{Entry}
 use Rattle.alert_states.specs.declared.entry.Update.{Update}
 use Rattle.alert_states.specs.declared.event.Event.{Event}

@@ -2,7 +2,7 @@
 use Rattle.std.specs.Prelude.{ℕ, ◌+◌, ◌%◌, Bool, true, false, List, [], ◌∷◌, length, filter, count_by, Option, Some, None, option_map, if◌then◌else◌}
 use Rattle.std.specs.List.{filter_map}
 use Rattle.std.specs.Ordering.{is_lt}
-use Rattle.site_params.specs.declared.site.Confirm.{Confirm}
+use Rattle.site_types.specs.declared.site.Confirm.{Confirm}
 use Rattle.alert_states.specs.declared.event.Status.{Status}
 use Rattle.alert_states.specs.declared.event.Status.TheVariants.{First, Continuing, Ended}
 use Rattle.alert_states.specs.declared.event.Subject.{Subject}

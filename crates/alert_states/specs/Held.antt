@@ -1,7 +1,7 @@
 -- What a book keeps of all cycles so far (this project's profile).
 use Rattle.std.specs.Prelude.{◌≡◌, ℕ, ◌%◌, List, map, take, is_some, if◌then◌else◌}
 use Rattle.std.specs.Simd.Lanes.{mask_l}
-use Rattle.site_params.specs.declared.site.Confirm.{Confirm}
+use Rattle.site_types.specs.declared.site.Confirm.{Confirm}
 use Rattle.alert_states.specs.declared.entry.Entry.{Entry}
 use Rattle.alert_states.specs.declared.event.Hit.{Hit}
 use Rattle.alert_states.specs.declared.event.Subject.{Subject}

@@ -1,7 +1,7 @@
 -- When a subject's alert is on (this project's profile). Cycles are listed the newest first.
 use Rattle.std.specs.Prelude.{◌≡◌, ℕ, ◌+◌, max, Bool, true, false, ◌&&◌, ◌||◌, List, [], ◌∷◌, take, filter, count_by, nat_le, is_some, Option, Some, None}
 use Rattle.std.specs.List.{list_any}
-use Rattle.site_params.specs.declared.site.Confirm.{Confirm}
+use Rattle.site_types.specs.declared.site.Confirm.{Confirm}
 use Rattle.alert_states.specs.declared.event.Status.{Status}
 use Rattle.alert_states.specs.declared.event.Status.TheVariants.{First, Continuing, Ended}
 use Rattle.alert_states.specs.declared.event.Subject.{Subject}

@@ -1,7 +1,7 @@
 -- What a cycle makes of the hits that are kept of a subject as bits (this project's profile).
 use Rattle.std.specs.Prelude.{ℕ, ◌+◌, ◌*◌, ◌%◌, ◌^◌, Bool, true, false, not, ◌&&◌, ◌||◌, ◌==◌, List, [], ◌∷◌, nat_le, count_ones, is_some, Option, Some, None, option_map, if◌then◌else◌}
 use Rattle.std.specs.List.{cons_option}
-use Rattle.site_params.specs.declared.site.Confirm.{Confirm}
+use Rattle.site_types.specs.declared.site.Confirm.{Confirm}
 use Rattle.alert_states.specs.declared.entry.Entry.{Entry}
 use Rattle.alert_states.specs.declared.entry.Update.{Update}
 use Rattle.alert_states.specs.declared.event.Event.{Event}

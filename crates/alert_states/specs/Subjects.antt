@@ -4,20 +4,12 @@ use Rattle.std.specs.declared.cmp.Ordering.{Ordering}
 use Rattle.std.specs.Ordering.{eq_by_cmp, nat_cmp, ordering_then}
 use Rattle.std.specs.List.Sorted.{IsStrictlySortedBy}
 use Rattle.std.specs.BTreeSet.{insert_key}
-use Rattle.site_params.specs.declared.site.Confirm.{Confirm}
-use Rattle.site_params.specs.declared.site.TheConstants.{STCA, MSAW, APW, APM}
+use Rattle.site_types.specs.declared.site.Confirm.{Confirm}
+use Rattle.site_types.specs.Nets.{place}
 use Rattle.track_motion.specs.Keys.{key_cmp}
-use Rattle.alert_states.specs.declared.event.Net.{Net}
-use Rattle.alert_states.specs.declared.event.Net.TheVariants.{Stca, Msaw, Apw, Apm}
+use Rattle.site_types.specs.declared.net.Net.{Net}
 use Rattle.alert_states.specs.declared.event.Subject.{Subject}
 use Rattle.alert_states.specs.declared.event.Hit.{Hit}
-
--- a net's place in lists of four
-abbrev pub place : Net → ℕ
-place Stca = STCA
-place Msaw = MSAW
-place Apw = APW
-place Apm = APM
 
 -- subjects in order: by net, then key, then second key, then object
 abbrev pub subject_cmp : Subject → Subject → Ordering

@@ -1,6 +1,6 @@
 //! The book of alerts: what is kept of all cycles so far.
 ghost use Rattle.std.specs.Prelude.{◌≡◌, ◌+◌, ◌<◌, ◌≤◌, ◌↔◌, ◌++◌, List, [], ◌∷◌, All, IfOk, OnOk, OnErr, IsTrue, length};
-ghost use Rattle.site_params.specs.Ranges.{IsConfirm};
+ghost use Rattle.site_types.specs.Ranges.{IsConfirm};
 ghost use Rattle.alert_states.specs.declared.event.Hit.{Hit};
 ghost use Rattle.alert_states.specs.Events.{events, firsts};
 ghost use Rattle.alert_states.specs.Held.{StandsFor};
@@ -11,7 +11,7 @@ use crate::NoMemory;
 use crate::entry::Entry;
 use crate::event::{ALERT_NUMBERS, Event, Hit};
 use crate::merge::merge;
-use site_params::Confirm;
+use site_types::Confirm;
 use std::alloc::Global;
 use std::marker::Model;
 use std::mem;
@@ -29,7 +29,7 @@ pub struct Book {
 
 impl Model for Book {
     ghost use Rattle.std.specs.Prelude.{All};
-    ghost use Rattle.site_params.specs.Ranges.{IsConfirm};
+    ghost use Rattle.site_types.specs.Ranges.{IsConfirm};
     ghost use Rattle.alert_states.specs.Held.{Held};
 
     ghost Value = { Held };

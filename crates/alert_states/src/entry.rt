@@ -1,11 +1,11 @@
 //! What is kept of a subject, and what a cycle makes of it.
 ghost use Rattle.std.specs.Prelude.{◌≡◌, ℕ, ◌%◌, ◌^◌, ◌≤◌, ◌<◌};
-ghost use Rattle.site_params.specs.Ranges.{IsConfirm};
+ghost use Rattle.site_types.specs.Ranges.{IsConfirm};
 ghost use Rattle.alert_states.specs.States.{status_of};
 ghost use Rattle.alert_states.specs.Steps.{begins_by, entry_after as entry_then, event_after as event_then, hits_after as hits_then, number_after as number_then, on_after as on_then};
 
 use crate::event::{Event, Hit, Status, Subject};
-use site_params::Confirm;
+use site_types::Confirm;
 
 /// What is kept of a subject.
 #[derive(Clone, Copy, Debug)]

@@ -1,18 +1,6 @@
 //! What a cycle hits, and what it says of alerts.
+use site_types::Net;
 use track_motion::TrackKey;
-
-/// The ground nets, in the order in which their subjects stand.
-#[derive(Clone, Copy, Debug, PartialEq, Eq, PartialOrd, Ord)]
-pub enum Net {
-    /// Short term conflict alert.
-    Stca,
-    /// Minimum safe altitude warning.
-    Msaw,
-    /// Area proximity warning.
-    Apw,
-    /// Approach path monitor.
-    Apm,
-}
 
 /// Whom an alert is about: a pair of tracks, a track, a track and a volume, or a track and a funnel.
 /// Subjects are ordered by these fields.

@@ -1,14 +1,26 @@
 //! Laws of the definitions: each is the contract of a function that does nothing.
 ghost use Rattle.std.specs.Prelude.{◌≡◌, ℕ, ◌+◌, ◌≤◌, true, false, List, [], ◌∷◌, length, map, count_by, All, Option, Some};
 ghost use Rattle.std.specs.List.Sorted.{IsStrictlySortedBy};
-ghost use Rattle.site_params.specs.declared.site.Confirm.{Confirm};
+ghost use Rattle.site_types.specs.declared.site.Confirm.{Confirm};
 ghost use Rattle.alert_states.specs.declared.event.Event.{Event};
 ghost use Rattle.alert_states.specs.declared.event.Hit.{Hit};
 ghost use Rattle.alert_states.specs.declared.event.Subject.{Subject};
+ghost use Rattle.alert_states.specs.declared.event.TheConstants.{ABOVE, ALERT_NUMBERS, BELOW, CURRENT_PROXIMITY, LEFT, RIGHT, URGENT};
 ghost use Rattle.alert_states.specs.Events.{events, firsts, is_first};
 ghost use Rattle.alert_states.specs.Figures.{AreInRoom, FitsMessage};
 ghost use Rattle.alert_states.specs.States.{IsQuiet, is_live, is_on, live_subjects};
 ghost use Rattle.alert_states.specs.Subjects.{AreInOrder, confirm_of, marks, subject_cmp, subjects};
+
+/// The numbers: how many there are for alerts, and the flags of a hit.
+pub fn numbers()
+    ensures alert_numbers { ALERT_NUMBERS ≡ 65536 }
+    ensures urgent { URGENT ≡ 1 }
+    ensures current_proximity { CURRENT_PROXIMITY ≡ 2 }
+    ensures below { BELOW ≡ 4 }
+    ensures above { ABOVE ≡ 8 }
+    ensures left { LEFT ≡ 16 }
+    ensures right { RIGHT ≡ 32 }
+{}
 
 /// A subject whose alert is on was hit in the last cycles that its net looks at.
 pub fn on_is_live()

@@ -9,12 +9,10 @@ mod merge;
 
 pub use book::Book;
 pub use event::{
-    ABOVE, ALERT_NUMBERS, BELOW, CURRENT_PROXIMITY, Event, Hit, HitData, LEFT, Net, RIGHT, Status,
+    ABOVE, ALERT_NUMBERS, BELOW, CURRENT_PROXIMITY, Event, Hit, HitData, LEFT, RIGHT, Status,
     Subject, URGENT,
 };
+pub use site_types::Net;
 
 /// Want of memory.
 pub type NoMemory = std::alloc::AllocError;
-
-#[cfg(test)]
-mod tests;

@@ -1,14 +1,14 @@
 //! One pass over what is kept and what is hit, both in the order of subjects.
 ghost use Rattle.std.specs.Prelude.{◌≡◌, ℕ, ◌+◌, ◌≤◌, ◌<◌, ◌++◌, [], ◌∷◌, All, IfSome, IfNone, length, drop, vec_len, vec_capacity, get_or};
 ghost use Rattle.std.specs.List.{cons_option};
-ghost use Rattle.site_params.specs.Ranges.{IsConfirm};
+ghost use Rattle.site_types.specs.Ranges.{IsConfirm};
 ghost use Rattle.alert_states.specs.Merge.{hit_again, hit_first, unhit, updates};
 ghost use Rattle.alert_states.specs.Steps.{begun_in, count_begun, kept_after, kept_entry, number_of, renewed, told, told_after};
 ghost use Rattle.alert_states.specs.Subjects.{confirm_of as setting_of, subject_cmp};
 
 use crate::entry::{Entry, Update, entry_after, event_after};
-use crate::event::{ALERT_NUMBERS, Event, Hit, Net, Status, Subject};
-use site_params::{APM, APW, Confirm, MSAW, STCA};
+use crate::event::{ALERT_NUMBERS, Event, Hit, Status, Subject};
+use site_types::{Confirm, Net};
 use std::cmp::Ordering;
 
 /// The next subject of what is kept and what is hit, and how many of each are about it.
@@ -99,12 +99,7 @@ fn confirm_of(confirm: &[Confirm; 4], net: Net) -> Confirm
     ensures setting { result ≡ setting_of confirm.now net }
     ensures range { IsConfirm result }
 {
-    match net {
-        Net::Stca => confirm[STCA],
-        Net::Msaw => confirm[MSAW],
-        Net::Apw => confirm[APW],
-        Net::Apm => confirm[APM],
-    }
+    confirm[net.place()]
 }
 
 /// Puts a subject that is live behind the others, and what the cycle says of it behind the other events.

@@ -4,8 +4,8 @@ use Rattle.std.specs.Int.RustNames.{unsigned_abs}
 use Rattle.std.specs.Prelude.{IsTrue}
 use Rattle.std.proofs.lemmas.Bool.{and_from, and_left, and_right, true≢false}
 use Rattle.std.proofs.lemmas.Int.{by_lt_z, ints}
-use Rattle.site_params.specs.declared.funnel.Funnel.{Funnel}
-use Rattle.site_fields.specs.declared.numbers.TheConstants.{LENGTH_UNITS_PER_METRE}
+use Rattle.site_types.specs.declared.funnel.Funnel.{Funnel}
+use Rattle.site_types.specs.declared.units.TheConstants.{LENGTH_UNITS_PER_METRE}
 use Rattle.track_motion.specs.declared.motion.Motion.{Motion}
 use Rattle.approach_funnel.specs.Apm.{beside, is_approaching, is_captured, is_in_reach, side_at}
 use Rattle.approach_funnel.specs.Approaches.{along, altitude, distance, length_of, offset}

@@ -5,9 +5,9 @@ use Rattle.std.proofs.lemmas.Bool.{cases_lt}
 use Rattle.std.proofs.lemmas.Bool.Decides.{nat_tests}
 use Rattle.std.proofs.lemmas.Int.{ints, to_z-of_z, fits_signed_from_abs}
 use Rattle.std.proofs.lemmas.Nat.{mul-le}
-use Rattle.site_params.specs.Ranges.{IsFunnel}
-use Rattle.site_params.specs.declared.funnel.Funnel.{Funnel}
-use Rattle.site_fields.specs.declared.numbers.TheConstants.{LENGTH_UNITS_PER_METRE}
+use Rattle.site_types.specs.Ranges.{IsFunnel}
+use Rattle.site_types.specs.declared.funnel.Funnel.{Funnel}
+use Rattle.site_types.specs.declared.units.TheConstants.{LENGTH_UNITS_PER_METRE}
 use Rattle.tick_sets.specs.Plane.{squared_length}
 use Rattle.tick_sets.specs.Roots.{root}
 use Rattle.approach_funnel.specs.declared.units.TheConstants.{RUN_LENGTH, RUN_SHARE}

@@ -2,7 +2,7 @@
 use Rattle.std.proofs.Common.{◌≡◌, ap, ◌∙◌, ℤ, pos, ◌+ℤ◌, ◌-ℤ◌, ◌*ℤ◌, neg_ℤ, arith}
 use Rattle.std.proofs.lemmas.Int.{ints}
 use lib.IntN.{*ℤ_comm}
-use Rattle.site_params.specs.declared.funnel.Funnel.{Funnel}
+use Rattle.site_types.specs.declared.funnel.Funnel.{Funnel}
 use Rattle.tick_sets.specs.Inequalities.{line_at}
 use Rattle.track_motion.specs.declared.motion.Motion.{Motion}
 use Rattle.approach_funnel.specs.Apm.{height_over}

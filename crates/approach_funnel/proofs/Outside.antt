@@ -1,7 +1,7 @@
 -- The ticks at which a track is beyond a side or a slope.
 use Rattle.std.proofs.Common.{◌≡◌, refl, sym, ℤ, pos, ◌*ℤ◌, neg_ℤ, ◌<ℤ◌, arith}
 use Rattle.std.proofs.lemmas.Int.{ints}
-use Rattle.site_params.specs.declared.funnel.Funnel.{Funnel}
+use Rattle.site_types.specs.declared.funnel.Funnel.{Funnel}
 use Rattle.tick_sets.specs.Inequalities.{line_at}
 use Rattle.tick_sets.specs.Ticks.{AreTicksWhere}
 use Rattle.tick_sets.specs.declared.Ticks.{Ticks}

@@ -2,11 +2,11 @@
 -- guidance material for APM; rules and numbers are this project's profile).
 use Rattle.std.specs.Prelude.{ℕ, Bool, ◌&&◌, ◌||◌, int_le, int_lt, find, Option, None, option_map, unsigned_abs, ℤ, pos, ◌+ℤ◌, ◌-ℤ◌, ◌*ℤ◌, neg_ℤ, if◌then◌else◌}
 use Rattle.tick_sets.specs.Searches.{ticks_to}
-use Rattle.site_params.specs.Looks.{look_of}
-use Rattle.site_params.specs.declared.funnel.Funnel.{Funnel}
-use Rattle.site_params.specs.declared.site.Set.{Set}
-use Rattle.site_params.specs.declared.site.TheConstants.{APM}
-use Rattle.site_fields.specs.declared.numbers.TheConstants.{LENGTH_UNITS_PER_METRE}
+use Rattle.site_types.specs.Looks.{look_of}
+use Rattle.site_types.specs.declared.funnel.Funnel.{Funnel}
+use Rattle.site_types.specs.declared.site.Set.{Set}
+use Rattle.site_types.specs.declared.net.TheConstants.{APM}
+use Rattle.site_types.specs.declared.units.TheConstants.{LENGTH_UNITS_PER_METRE}
 use Rattle.track_motion.specs.declared.motion.Motion.{Motion}
 use Rattle.approach_funnel.specs.declared.hit.FunnelHit.{FunnelHit}
 use Rattle.approach_funnel.specs.declared.units.TheConstants.{RUN_LENGTH, RUN_METRES, RUN_SHARE, STEP_FEET, STEP_HEIGHT, STEP_SHARE}

@@ -5,7 +5,7 @@ use Rattle.std.specs.Prelude.{unsigned_abs, ℤ, pos, ◌-ℤ◌, ◌*ℤ◌, ne
 use Rattle.tick_sets.specs.Inequalities.{line_at}
 use Rattle.tick_sets.specs.Plane.{scalar_product, squared_length}
 use Rattle.tick_sets.specs.Roots.{root}
-use Rattle.site_params.specs.declared.funnel.Funnel.{Funnel}
+use Rattle.site_types.specs.declared.funnel.Funnel.{Funnel}
 use Rattle.track_motion.specs.declared.motion.Motion.{Motion}
 
 -- the length of the landing direction, rounded down

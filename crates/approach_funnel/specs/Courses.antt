@@ -1,7 +1,7 @@
 -- The course of a track on an approach, as it changes evenly each tick (this project's profile: exact in whole numbers).
 use Rattle.std.specs.Prelude.{◌^◌, ◌≤◌, unsigned_abs, ℤ, ◌<ℤ◌}
 use Rattle.tick_sets.specs.Inequalities.{line_at}
-use Rattle.site_params.specs.declared.funnel.Funnel.{Funnel}
+use Rattle.site_types.specs.declared.funnel.Funnel.{Funnel}
 use Rattle.track_motion.specs.declared.motion.Motion.{Motion}
 use Rattle.approach_funnel.specs.declared.course.Course.{Course}
 use Rattle.approach_funnel.specs.Apm.{beside, side_at}

@@ -1,10 +1,10 @@
 -- Approach path monitor in words: when a track is captured, when it deviates, when it is hit, and what the
 -- first tick and the flags of the hit are (this project's profile).
 use Rattle.std.specs.Prelude.{◌≡◌, ◌↔◌, ◌⊎◌, ℕ, ◌≤◌, IsTrue, unsigned_abs, ℤ, pos, neg_ℤ, ◌≤ℤ◌, ◌<ℤ◌}
-use Rattle.site_params.specs.Looks.{look_of}
-use Rattle.site_params.specs.declared.funnel.Funnel.{Funnel}
-use Rattle.site_params.specs.declared.site.Set.{Set}
-use Rattle.site_params.specs.declared.site.TheConstants.{APM}
+use Rattle.site_types.specs.Looks.{look_of}
+use Rattle.site_types.specs.declared.funnel.Funnel.{Funnel}
+use Rattle.site_types.specs.declared.site.Set.{Set}
+use Rattle.site_types.specs.declared.net.TheConstants.{APM}
 use Rattle.track_motion.specs.declared.motion.Motion.{Motion}
 use Rattle.approach_funnel.specs.declared.hit.FunnelHit.{FunnelHit}
 use Rattle.approach_funnel.specs.Approaches.{along, altitude, distance, offset}

@@ -2,7 +2,7 @@
 use Rattle.std.specs.Prelude.{◌≡◌, ℕ, Bool, ◌&&◌, find, Option, None, Some, option_map, ℤ, pos}
 use Rattle.std.specs.Int.{int_min}
 use Rattle.tick_sets.specs.Searches.{ticks_to}
-use Rattle.site_params.specs.declared.funnel.Funnel.{Funnel}
+use Rattle.site_types.specs.declared.funnel.Funnel.{Funnel}
 use Rattle.track_motion.specs.declared.motion.Motion.{Motion}
 use Rattle.approach_funnel.specs.declared.firsts.Firsts.{Firsts}
 use Rattle.approach_funnel.specs.Apm.{is_above, is_before, is_below, is_left, is_right}

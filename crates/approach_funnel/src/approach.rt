@@ -1,13 +1,13 @@
 //! A funnel that is made ready to be looked at often.
 ghost use Rattle.std.specs.Prelude.{◌≡◌, ◌*ℤ◌, pos};
-ghost use Rattle.site_fields.specs.Ranges.{IsWithin};
-ghost use Rattle.site_params.specs.Ranges.{IsFunnel};
-ghost use Rattle.site_params.specs.declared.ranges.TheConstants.{HALF_METRES, RISE_FEET, SIDE_METRES};
+ghost use Rattle.site_types.specs.Limits.{IsWithin};
+ghost use Rattle.site_types.specs.Ranges.{IsFunnel};
+ghost use Rattle.site_types.specs.declared.ranges.TheConstants.{HALF_METRES, RISE_FEET, SIDE_METRES};
 ghost use Rattle.approach_funnel.specs.Approaches.{length_of};
 
 use crate::lines::Limit;
 use crate::units::{RUN_LENGTH, RUN_METRES, RUN_SHARE, STEP_SHARE};
-use site_params::Funnel;
+use site_types::Funnel;
 use std::marker::Model;
 use tick_sets::isqrt;
 
@@ -20,7 +20,7 @@ pub struct Approach<'a> {
 
 impl<'a> Model for Approach<'a> {
     ghost use Rattle.std.specs.Prelude.{◌≡◌};
-    ghost use Rattle.site_params.specs.declared.funnel.Funnel.{Funnel};
+    ghost use Rattle.site_types.specs.declared.funnel.Funnel.{Funnel};
     ghost use Rattle.approach_funnel.specs.Approaches.{length_of};
 
     ghost Value = { Funnel };

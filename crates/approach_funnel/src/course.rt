@@ -1,6 +1,6 @@
 //! The course of a track on an approach.
 ghost use Rattle.std.specs.Prelude.{◌≡◌, ◌&&◌, int_le, int_lt, neg_ℤ, pos, is_some, IfSome};
-ghost use Rattle.site_params.specs.Ranges.{IsFunnel};
+ghost use Rattle.site_types.specs.Ranges.{IsFunnel};
 ghost use Rattle.track_motion.specs.Motions.{InRange};
 ghost use Rattle.approach_funnel.specs.Approaches.{across as across_of, along as along_of, distance as distance_at, offset as offset_at};
 ghost use Rattle.approach_funnel.specs.Apm.{is_captured, reach_of};
@@ -9,7 +9,7 @@ ghost use Rattle.approach_funnel.specs.Lines.{Changes};
 
 use crate::approach::Approach;
 use crate::lines::{Limit, Line};
-use site_params::{Funnel, LENGTH_UNITS_PER_METRE};
+use site_types::{Funnel, LENGTH_UNITS_PER_METRE};
 use track_motion::Motion;
 
 /// Where a captured track is on an approach: its distance before the threshold and its offset to the right of the

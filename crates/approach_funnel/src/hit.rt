@@ -1,14 +1,13 @@
 //! Approach path monitor: whether a track is hit by an approach funnel.
 ghost use Rattle.std.specs.Prelude.{◌≡◌, ◌↔◌, IsTrue, Some, int_le};
-ghost use Rattle.site_params.specs.Ranges.{IsFunnel, IsSet};
+ghost use Rattle.site_types.specs.Ranges.{IsFunnel, IsSet};
 ghost use Rattle.track_motion.specs.Motions.{InRange};
 ghost use Rattle.approach_funnel.specs.Apm.{apm_hit};
 
 use crate::approach::Approach;
 use crate::course::Course;
 use crate::firsts::Firsts;
-use crate::limits::look_ahead;
-use site_params::Set;
+use site_types::{Funnel, Net, Set};
 use tick_sets::laws::searches_find_the_first;
 use track_motion::Motion;
 
@@ -28,19 +27,32 @@ pub struct FunnelHit {
     pub urgent: bool,
 }
 
-/// The hit of a track by a funnel, by the track's set. None where it isn't hit.
-pub fn apm(m: &Motion, approach: &Approach<'_>, set: &Set) -> Option<FunnelHit>
+/// The hit of a track by a funnel, by the track's set. None where it isn't hit. It takes the length of the landing
+/// direction first: who asks of one funnel often has its approach made ready once.
+pub fn apm(m: &Motion, f: &Funnel, set: &Set) -> Option<FunnelHit>
     requires motion { InRange m.now }
-    requires funnel { IsFunnel approach.now }
+    requires funnel { IsFunnel f.now }
     requires set { IsSet set.now }
-    ensures { result ≡ apm_hit m.now approach.now set.now }
+    ensures { result ≡ apm_hit m.now f.now set.now }
 {
-    // The proof takes this law; the call does nothing.
-    searches_find_the_first();
-    let course = Course::captured(m, approach)?;
-    let firsts = Firsts::of(course, m, approach, look_ahead(set));
-    let first = firsts.least()?;
-    Some(hit_from(firsts, first, set))
+    Approach::of(f).hit(m, set)
+}
+
+impl<'a> Approach<'a> {
+    /// The hit of a track by the funnel, by the track's set. None where it isn't hit.
+    pub fn hit(&self, m: &Motion, set: &Set) -> Option<FunnelHit>
+        requires motion { InRange m.now }
+        requires funnel { IsFunnel self.now }
+        requires set { IsSet set.now }
+        ensures { result ≡ apm_hit m.now self.now set.now }
+    {
+        // The proof takes this law; the call does nothing.
+        searches_find_the_first();
+        let course = Course::captured(m, self)?;
+        let firsts = Firsts::of(course, m, self, set.look_ahead(Net::Apm));
+        let first = firsts.least()?;
+        Some(hit_from(firsts, first, set))
+    }
 }
 
 /// The hit that begins at this tick: the flags are of what begins then too.

@@ -6,12 +6,8 @@ mod course;
 mod firsts;
 mod hit;
 pub mod laws;
-mod limits;
 mod lines;
 mod units;
 
 pub use approach::Approach;
 pub use hit::{FunnelHit, apm};
-
-#[cfg(test)]
-mod tests;

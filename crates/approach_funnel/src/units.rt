@@ -1,6 +1,6 @@
 //! How lengths and heights go together on a slope.
 
-use site_params::{FEET_PER_LEVEL, HEIGHT_UNITS_PER_25_FEET, LENGTH_UNITS_PER_METRE};
+use site_types::{FEET_PER_LEVEL, HEIGHT_UNITS_PER_25_FEET, LENGTH_UNITS_PER_METRE};
 
 /// A run: a rise and a side are told for each so many metres before the threshold.
 pub const RUN_METRES: i64 = 10_000;

@@ -3,8 +3,8 @@ use Rattle.std.specs.Prelude.{ℕ, ◌+◌, ◌-◌, ◌*◌, ◌/◌, ◌%◌, 
 use Rattle.std.specs.List.{list_any, sum_by}
 use Rattle.asterix_fields.specs.Numbers.{octets}
 use Rattle.track_motion.specs.declared.track.TheConstants.{TICKS_PER_DAY}
-use Rattle.alert_states.specs.declared.event.Net.{Net}
-use Rattle.alert_states.specs.declared.event.Net.TheVariants.{Stca, Msaw, Apw, Apm}
+use Rattle.site_types.specs.declared.net.Net.{Net}
+use Rattle.site_types.specs.declared.net.Net.TheVariants.{Stca, Msaw, Apw, Apm}
 use Rattle.alert_states.specs.declared.event.Status.{Status}
 use Rattle.alert_states.specs.declared.event.Status.TheVariants.{First, Continuing, Ended}
 use Rattle.alert_states.specs.declared.event.HitData.{HitData}

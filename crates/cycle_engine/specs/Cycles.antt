@@ -8,7 +8,7 @@ use Rattle.cat004_write.specs.Blocks.{pack}
 use Rattle.cat004_write.specs.Messages.{message}
 use Rattle.cycle_workers.specs.Hits.{count_examined, hits_of}
 use Rattle.cycle_workers.specs.Settings.{Setting}
-use Rattle.site_params.specs.declared.site.Site.{Site}
+use Rattle.site_types.specs.declared.site.Site.{Site}
 use Rattle.track_table.specs.declared.table.Frozen.{Frozen}
 use Rattle.cycle_engine.specs.declared.engine.CycleDone.{CycleDone}
 

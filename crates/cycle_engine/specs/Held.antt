@@ -3,10 +3,10 @@ use Rattle.std.specs.Prelude.{◌≡◌, ℕ, List, [], length}
 use Rattle.alert_states.specs.Held as books
 use Rattle.alert_states.specs.declared.event.Hit.{Hit}
 use Rattle.cat004_write.specs.Blocks.{Packing, Packs}
-use Rattle.site_params.specs.declared.site.Site.{Site}
+use Rattle.site_types.specs.declared.site.Site.{Site}
 use Rattle.track_table.specs.declared.table.Frozen.{Frozen}
 use Rattle.track_table.specs.Proper.{IsProper}
-use Rattle.track_table.specs.Times.{IsTime, cycle_time}
+use Rattle.track_table.specs.Times.{cycle_time}
 use Rattle.cycle_workers.specs.Settings.{Setting}
 use Rattle.cycle_engine.specs.Cycles.{hits_in}
 
@@ -26,7 +26,6 @@ pub record StandsFor (held : Held) (tables : List Frozen) : Type 0 where
 pub record IsTableOf (site : Site) (number : ℕ) (table : Frozen) : Type 0 where
   pub cycle : table.cycle ≡ number
   pub time : table.time ≡ cycle_time site.start site.period number
-  pub late : IsTime table.time
   pub proper : IsProper table
 
 -- a book of some cycles

@@ -2,7 +2,7 @@
 ghost use Rattle.std.specs.Prelude.{◌≡◌, ◌+◌, ◌≤◌, [], IfOk, OnOk, IsErrOf};
 ghost use Rattle.outside_io.specs.Faults.{Rose};
 ghost use Rattle.cycle_workers.specs.Settings.{setting};
-ghost use Rattle.site_params.specs.Ranges.{IsSite};
+ghost use Rattle.site_types.specs.Ranges.{IsSite};
 ghost use Rattle.terrain_file.specs.Ranges.{IsTerrain};
 ghost use Rattle.cycle_engine.specs.Held.{IsTableOf, StandsFor};
 ghost use Rattle.cycle_engine.specs.Outcomes.{Answers, Keeps, Writes, WritesPrefix};
@@ -11,9 +11,9 @@ use crate::NoMemory;
 use crate::messages::{pack_events, tell_events};
 use alert_states::{Book, Event};
 use cat004_write::Packer;
-use cycle_workers::{Nets, hits_one};
+use cycle_workers::Nets;
 use outside_io::{Failed, Sink, Steps, write_whole};
-use site_params::Site;
+use site_types::Site;
 use std::alloc::{AllocError, Global};
 use std::marker::Model;
 use std::sync::ledger::Ledger;
@@ -130,6 +130,8 @@ impl<'a> Engine<'a> {
         ensures prefix { IsErrOf result CycleFault.WriteFault → WritesPrefix self.old f.now (K.taken sink.old) (K.taken sink.new) }
         ensures broken { IsErrOf result CycleFault.WriteFault → Rose (K.faults sink.old) (K.faults sink.new) }
 
+        ensures still { IsErrOf result CycleFault.WriteFault → self.new.next ≡ self.old.next }
+
         // What stays as it was.
         ensures setting { self.new.setting ≡ self.old.setting }
         ensures unbroken { (IsErrOf result CycleFault.WriteFault → ⊥) → K.faults sink.new ≡ K.faults sink.old }
@@ -137,7 +139,7 @@ impl<'a> Engine<'a> {
         ensures later { steps.old ≤ steps.new }
     {
         let site = self.nets.site();
-        let found = hits_one(self.alloc, f, &self.nets, steps)?;
+        let found = self.nets.hits(self.alloc, f, steps)?;
         let firsts = tell_events(
             &mut self.book,
             &mut self.packer,

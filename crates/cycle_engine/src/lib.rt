@@ -8,6 +8,3 @@ pub use engine::{CycleDone, CycleFault, Engine};
 
 /// Want of memory.
 pub type NoMemory = std::alloc::AllocError;
-
-#[cfg(test)]
-mod tests;

@@ -11,7 +11,7 @@ use crate::NoMemory;
 use alert_states::laws::{events_bounded, events_carry_hits};
 use alert_states::{Book, Event, Hit};
 use cat004_write::{Packer, write_event};
-use site_params::Site;
+use site_types::Site;
 use track_table::Frozen;
 
 /// Takes the hits of a cycle into the book, and leaves what they tell in `events`, alone. Answers how many alerts

@@ -6,8 +6,8 @@ use Rattle.std.proofs.lemmas.List.{drop_more}
 use Rattle.std.proofs.lemmas.List.FromFn.{get_or-range_with_len, length-range_with_len}
 use Rattle.std.proofs.lemmas.Slice.Zip.{get_or-zip}
 use Rattle.alert_states.specs.declared.event.Hit.{Hit}
-use Rattle.site_params.specs.declared.site.Set.{Set}
-use Rattle.site_params.specs.declared.site.Site.{Site}
+use Rattle.site_types.specs.declared.site.Set.{Set}
+use Rattle.site_types.specs.declared.site.Site.{Site}
 use Rattle.cycle_workers.specs.declared.movers.Mover.{Mover}
 use Rattle.cycle_workers.specs.Hits.{hits_by, numbered, row_hits}
 use Rattle.cycle_workers.proofs.Pairs.{no_mover}

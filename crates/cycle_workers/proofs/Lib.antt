@@ -1,6 +1,8 @@
 pub mod ByObject
+pub mod Elements
 pub mod Found
 pub mod Keys
+pub mod Members
 pub mod Order
 pub mod Pairs
 pub mod Sites

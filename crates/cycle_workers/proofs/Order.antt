@@ -10,15 +10,16 @@ use Rattle.std.specs.Cmp.{tied_itself}
 use Rattle.std.proofs.lemmas.Cmp.{nat_cmp_total}
 use Rattle.alert_states.specs.declared.event.Hit.{Hit}
 use Rattle.airspace_volumes.specs.Apw.{apw_hit}
-use Rattle.alert_states.specs.declared.event.Net.{Net}
-use Rattle.alert_states.specs.declared.event.Net.TheVariants.{Apm, Apw, Msaw, Stca}
+use Rattle.site_types.specs.declared.net.Net.{Net}
+use Rattle.site_types.specs.declared.net.Net.TheVariants.{Apm, Apw, Msaw, Stca}
 use Rattle.alert_states.specs.declared.event.Subject.{Subject}
-use Rattle.alert_states.specs.Subjects.{AreInOrder, place, subject_cmp}
+use Rattle.alert_states.specs.Subjects.{AreInOrder, subject_cmp}
+use Rattle.site_types.specs.Nets.{place}
 use Rattle.approach_funnel.specs.Apm.{apm_hit}
-use Rattle.site_params.specs.declared.airspace.Volume.{Volume}
-use Rattle.site_params.specs.declared.funnel.Funnel.{Funnel}
-use Rattle.site_params.specs.declared.site.Set.{Set}
-use Rattle.site_params.specs.declared.site.Site.{Site}
+use Rattle.site_types.specs.declared.airspace.Volume.{Volume}
+use Rattle.site_types.specs.declared.funnel.Funnel.{Funnel}
+use Rattle.site_types.specs.declared.site.Set.{Set}
+use Rattle.site_types.specs.declared.site.Site.{Site}
 use Rattle.stca_fine.specs.declared.hit.StcaHit.{StcaHit}
 use Rattle.stca_fine.specs.Stca.{stca_hit}
 use Rattle.terrain_cells.specs.Msaw.{msaw_hit}

@@ -3,9 +3,9 @@ use Rattle.std.proofs.Common.{◌≡◌, pos, Bool, true, false, cond, List, map
 use Rattle.std.specs.List.{filter_map}
 use Rattle.std.specs.List.Sorted.{IsStrictlySortedBy}
 use Rattle.std.specs.Option.{option_and_then, option_map}
-use Rattle.alert_states.specs.declared.event.Net.{Net}
-use Rattle.alert_states.specs.declared.event.Net.TheVariants.{Apm, Apw, Msaw}
-use Rattle.site_params.specs.declared.site.Site.{Site}
+use Rattle.site_types.specs.declared.net.Net.{Net}
+use Rattle.site_types.specs.declared.net.Net.TheVariants.{Apm, Apw, Msaw}
+use Rattle.site_types.specs.declared.site.Site.{Site}
 use Rattle.track_motion.specs.declared.motion.Motion.{Motion}
 use Rattle.track_motion.specs.declared.rank.Stamped.{Stamped}
 use Rattle.track_motion.specs.declared.track.TrackKey.{TrackKey}

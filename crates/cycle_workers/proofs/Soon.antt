@@ -9,12 +9,12 @@ use Rattle.airspace_volumes.specs.Active.{is_active}
 use Rattle.airspace_volumes.specs.Apw.{apw_hit, first_inside, is_inside_at}
 use Rattle.approach_funnel.specs.Apm.{apm_hit, first_deviation, hit_at, is_captured, is_deviating}
 use Rattle.approach_funnel.specs.declared.hit.FunnelHit.{FunnelHit}
-use Rattle.site_params.specs.Looks.{look_of}
-use Rattle.site_params.specs.Ranges.{IsSet}
-use Rattle.site_params.specs.declared.airspace.Volume.{Volume}
-use Rattle.site_params.specs.declared.funnel.Funnel.{Funnel}
-use Rattle.site_params.specs.declared.site.Set.{Set}
-use Rattle.site_params.specs.declared.site.TheConstants.{APM, APW, MSAW}
+use Rattle.site_types.specs.Looks.{look_of}
+use Rattle.site_types.specs.Ranges.{IsSet}
+use Rattle.site_types.specs.declared.airspace.Volume.{Volume}
+use Rattle.site_types.specs.declared.funnel.Funnel.{Funnel}
+use Rattle.site_types.specs.declared.site.Set.{Set}
+use Rattle.site_types.specs.declared.net.TheConstants.{APM, APW, MSAW}
 use Rattle.terrain_cells.specs.Msaw.{first_too_low, is_too_low_at, msaw_hit}
 use Rattle.terrain_file.specs.declared.terrain.Terrain.{Terrain}
 use Rattle.tick_sets.specs.Searches.{Finds, hit_from, ticks_to}

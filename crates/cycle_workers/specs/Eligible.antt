@@ -1,12 +1,12 @@
 -- Which rows of a table a net looks at, and with which parameter set (this project's profile).
-use Rattle.std.specs.Prelude.{ℕ, ◌==◌, Bool, false, ◌&&◌, not, int_le, List, find, get_or, Option, Some, None, ℤ, if◌then◌else◌}
+use Rattle.std.specs.Prelude.{ℕ, ◌==◌, Bool, false, ◌&&◌, not, int_le, List, find, Option, Some, None, ℤ, if◌then◌else◌}
 use Rattle.std.specs.List.{filter_map, list_any, slice_get}
 use Rattle.std.specs.Option.{option_and_then, option_map, option_map_or}
-use Rattle.alert_states.specs.declared.event.Net.{Net}
-use Rattle.alert_states.specs.Subjects.{place}
+use Rattle.site_types.specs.declared.net.Net.{Net}
+use Rattle.site_types.specs.Nets.{enables}
 use Rattle.polygon_plan.specs.Inside.{inside}
-use Rattle.site_params.specs.declared.airspace.Region.{Region}
-use Rattle.site_params.specs.declared.site.Site.{Site}
+use Rattle.site_types.specs.declared.airspace.Region.{Region}
+use Rattle.site_types.specs.declared.site.Site.{Site}
 use Rattle.track_motion.specs.declared.motion.Motion.{Motion}
 use Rattle.track_motion.specs.declared.rank.Stamped.{Stamped}
 use Rattle.track_motion.specs.declared.track.Track.{Track}
@@ -24,7 +24,7 @@ set_of site m = option_map_or (λ r. r.set) (find (is_in_region m) site.regions)
 
 -- a parameter set enables a net
 abbrev pub is_enabled : Site → Net → ℕ → Bool
-is_enabled site net set = option_map_or (λ s. get_or s.enabled (place net) false) (slice_get site.sets set) false
+is_enabled site net set = option_map_or (enables net) (slice_get site.sets set) false
 
 -- a code that the site leaves out of the nets
 abbrev pub is_left_out : Site → Option ℕ → Bool

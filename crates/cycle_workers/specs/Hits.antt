@@ -5,16 +5,16 @@ use Rattle.std.specs.Option.{option_and_then, option_map, option_map_or}
 use Rattle.airspace_volumes.specs.Apw.{apw_hit}
 use Rattle.alert_states.specs.declared.event.Hit.{Hit}
 use Rattle.alert_states.specs.declared.event.HitData.{HitData}
-use Rattle.alert_states.specs.declared.event.Net.{Net}
-use Rattle.alert_states.specs.declared.event.Net.TheVariants.{Apm, Apw, Msaw, Stca}
+use Rattle.site_types.specs.declared.net.Net.{Net}
+use Rattle.site_types.specs.declared.net.Net.TheVariants.{Apm, Apw, Msaw, Stca}
 use Rattle.alert_states.specs.declared.event.Subject.{Subject}
 use Rattle.alert_states.specs.declared.event.TheConstants.{ABOVE, BELOW, CURRENT_PROXIMITY, LEFT, RIGHT, URGENT}
 use Rattle.approach_funnel.specs.Apm.{apm_hit}
 use Rattle.approach_funnel.specs.declared.hit.FunnelHit.{FunnelHit}
-use Rattle.site_params.specs.declared.airspace.Volume.{Volume}
-use Rattle.site_params.specs.declared.funnel.Funnel.{Funnel}
-use Rattle.site_params.specs.declared.site.Set.{Set}
-use Rattle.site_params.specs.declared.site.Site.{Site}
+use Rattle.site_types.specs.declared.airspace.Volume.{Volume}
+use Rattle.site_types.specs.declared.funnel.Funnel.{Funnel}
+use Rattle.site_types.specs.declared.site.Set.{Set}
+use Rattle.site_types.specs.declared.site.Site.{Site}
 use Rattle.stca_fine.specs.declared.hit.StcaHit.{StcaHit}
 use Rattle.stca_fine.specs.Stca.{stca_hit}
 use Rattle.terrain_cells.specs.Msaw.{msaw_hit}

@@ -1,8 +1,8 @@
 -- What the nets rely on of tables and of eligible rows (this project's profile).
 use Rattle.std.specs.Prelude.{◌≡◌, ◌<◌, ◌≤ℤ◌, List, length, slice_get, Some, All, pos}
-use Rattle.site_params.specs.Ranges.{IsSet}
-use Rattle.site_params.specs.declared.site.Set.{Set}
-use Rattle.site_params.specs.declared.site.Site.{Site}
+use Rattle.site_types.specs.Ranges.{IsSet}
+use Rattle.site_types.specs.declared.site.Set.{Set}
+use Rattle.site_types.specs.declared.site.Site.{Site}
 use Rattle.track_motion.specs.declared.track.TrackKey.{TrackKey}
 use Rattle.track_motion.specs.Motions.{InRange}
 use Rattle.track_table.specs.declared.table.Frozen.{Frozen}

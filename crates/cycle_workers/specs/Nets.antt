@@ -1,9 +1,9 @@
 -- What the nets have ready (this project's profile).
 use Rattle.std.specs.Prelude.{◌≡◌, List}
-use Rattle.site_params.specs.Ranges.{IsSite}
-use Rattle.site_params.specs.declared.airspace.Volume.{Volume}
-use Rattle.site_params.specs.declared.funnel.Funnel.{Funnel}
-use Rattle.site_params.specs.declared.site.Site.{Site}
+use Rattle.site_types.specs.Ranges.{IsSite}
+use Rattle.site_types.specs.declared.airspace.Volume.{Volume}
+use Rattle.site_types.specs.declared.funnel.Funnel.{Funnel}
+use Rattle.site_types.specs.declared.site.Site.{Site}
 use Rattle.terrain_file.specs.Ranges.{IsTerrain}
 use Rattle.terrain_file.specs.declared.terrain.Terrain.{Terrain}
 

@@ -1,5 +1,5 @@
 -- A site with its terrain (this project's profile).
-use Rattle.site_params.specs.declared.site.Site.{Site}
+use Rattle.site_types.specs.declared.site.Site.{Site}
 use Rattle.terrain_file.specs.declared.terrain.Terrain.{Terrain}
 
 -- what the nets look by: what the site file sets, and the terrain under the tracks

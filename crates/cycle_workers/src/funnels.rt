@@ -2,7 +2,7 @@
 ghost use Rattle.std.specs.Prelude.{◌≡◌, ◌++◌, IfSome, OnOk};
 ghost use Rattle.std.specs.List.{filter_map};
 ghost use Rattle.alert_states.specs.Figures.{AreInRoom, FitsOctets};
-ghost use Rattle.site_params.specs.Ranges.{AreFunnels, IsFunnel, IsSet, IsSite};
+ghost use Rattle.site_types.specs.Ranges.{AreFunnels, IsFunnel, IsSet, IsSite};
 ghost use Rattle.track_motion.specs.Motions.{InRange};
 ghost use Rattle.cycle_workers.specs.Firsts.{IsSoon};
 ghost use Rattle.cycle_workers.specs.Hits.{apm_hit_by, funnel_flags as flags_of, funnel_hit as hit_by, hits_by, numbered, raised as raised_of};
@@ -11,9 +11,9 @@ ghost use Rattle.cycle_workers.specs.Movers.{AreMovers};
 use crate::NoMemory;
 use crate::movers::Mover;
 use crate::rows::{number_of, row_figures, row_subject, set_of};
-use alert_states::{ABOVE, BELOW, Hit, LEFT, Net, RIGHT, URGENT};
-use approach_funnel::{Approach, FunnelHit, apm};
-use site_params::{Set, Site};
+use alert_states::{ABOVE, BELOW, Hit, LEFT, RIGHT, URGENT};
+use approach_funnel::{Approach, FunnelHit};
+use site_types::{Net, Set, Site};
 use tick_sets::laws::searches_find_the_first;
 
 /// A flag, where it is raised.
@@ -57,7 +57,7 @@ fn examine_funnel(set: &Set, m: &Mover, object: u16, approach: &Approach<'_>) ->
 {
     // The proof takes this law; the call does nothing.
     searches_find_the_first();
-    let hit = apm(&m.motion, approach, set)?;
+    let hit = approach.hit(&m.motion, set)?;
     Some(funnel_hit(m, object, &hit))
 }
 

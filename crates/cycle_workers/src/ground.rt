@@ -1,7 +1,7 @@
 //! The hits of rows by the terrain.
 ghost use Rattle.std.specs.Prelude.{◌≡◌, [], ◌∷◌, ◌++◌, IfSome, OnOk};
 ghost use Rattle.alert_states.specs.Figures.{AreInRoom, FitsOctets};
-ghost use Rattle.site_params.specs.Ranges.{IsSet, IsSite};
+ghost use Rattle.site_types.specs.Ranges.{IsSet, IsSite};
 ghost use Rattle.terrain_file.specs.Ranges.{IsTerrain};
 ghost use Rattle.track_motion.specs.Motions.{InRange};
 ghost use Rattle.cycle_workers.specs.Hits.{hits_by, msaw_hit_by};
@@ -10,9 +10,9 @@ ghost use Rattle.cycle_workers.specs.Movers.{AreMovers};
 use crate::NoMemory;
 use crate::movers::Mover;
 use crate::rows::{set_of, tick_hit};
-use alert_states::{Hit, Net};
-use site_params::{Set, Site};
-use terrain_cells::{Ground, msaw};
+use alert_states::Hit;
+use site_types::{Net, Set, Site};
+use terrain_cells::Ground;
 use tick_sets::laws::searches_find_the_first;
 
 /// The hit of a row by the terrain, by the row's set.
@@ -25,7 +25,7 @@ fn examine_ground(set: &Set, m: &Mover, ground: &Ground<'_>) -> Option<Hit>
 {
     // The proof takes this law; the call does nothing.
     searches_find_the_first();
-    let hit = msaw(&m.motion, ground, set)?;
+    let hit = ground.hit(&m.motion, set)?;
     Some(tick_hit(Net::Msaw, m, 0, hit))
 }
 

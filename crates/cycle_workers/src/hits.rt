@@ -3,10 +3,12 @@ ghost use Rattle.std.specs.Prelude.{◌≡◌, ◌+◌, ◌^◌, ◌≤◌, ◌+
 ghost use Rattle.std.specs.List.{filter_map};
 ghost use Rattle.alert_states.specs.Figures.{AreInRoom};
 ghost use Rattle.alert_states.specs.Subjects.{AreInOrder};
-ghost use Rattle.site_params.specs.Ranges.{IsSite};
+ghost use Rattle.site_types.specs.Ranges.{IsSite};
+ghost use Rattle.terrain_file.specs.Ranges.{IsTerrain};
 ghost use Rattle.cycle_workers.specs.Eligible.{enabled as those};
 ghost use Rattle.cycle_workers.specs.Hits.{count_examined, count_pairs, hit_of, hits_among, hits_of, stca_hits};
 ghost use Rattle.cycle_workers.specs.Movers.{AreMovers, IsCycleTable, IsMover};
+ghost use Rattle.cycle_workers.specs.Settings.{setting};
 
 use crate::NoMemory;
 use crate::funnels::add_funnel_hits;
@@ -16,11 +18,12 @@ use crate::nets::Nets;
 use crate::pair::examine_pair;
 use crate::rows::set_of;
 use crate::volumes::add_volume_hits;
-use alert_states::{Hit, Net};
+use alert_states::Hit;
 use outside_io::Steps;
-use site_params::Site;
+use site_types::{Net, Site};
 use std::alloc::Global;
 use std::sync::ledger::Ledger;
+use terrain_file::Terrain;
 use track_table::Frozen;
 
 /// The hits of a table, and how many pairs were examined for them.
@@ -107,25 +110,48 @@ fn add_row_hits(
 }
 
 /// All hits of a table in the order of subjects. It examines each pair of rows that are eligible for STCA once,
-/// in one step.
+/// in one step. It makes the site's nets ready first: who asks of many tables has them made ready once.
 pub fn hits_one<L: Ledger>(
     alloc: Global,
     f: &Frozen,
-    nets: &Nets<'_>,
+    site: &Site,
+    terrain: &Terrain,
     steps: &mut Steps<L>,
 ) -> Result<Hits, NoMemory>
-    requires { IsCycleTable f.now }
-    ensures hits { IfOk result (λ found. found.hits.items ≡ hits_of nets.now f.now) }
+    requires table { IsCycleTable f.now }
+    requires site { IsSite site.now }
+    requires terrain { IsTerrain terrain.now }
+    ensures hits { IfOk result (λ found. found.hits.items ≡ hits_of (setting site.now terrain.now) f.now) }
     ensures order { IfOk result (λ found. AreInOrder found.hits.items) }
     ensures room { IfOk result (λ found. AreInRoom found.hits.items) }
-    ensures examined { IfOk result (λ found. found.examined ≡ count_examined nets.now.site f.now) }
+    ensures examined { IfOk result (λ found. found.examined ≡ count_examined site.now f.now) }
     ensures counted { IfOk result (λ found. steps.new ≡ steps.old + found.examined) }
     ensures later { steps.old ≤ steps.new }
 {
-    let site = nets.site();
-    let all = watched(alloc, f, site)?;
-    let pairs = enabled(alloc, site, Net::Stca, &all)?;
-    let mut found = pair_hits(alloc, site, &pairs, steps)?;
-    add_row_hits(alloc, nets, f.time, &all, &mut found.hits)?;
-    Ok(found)
+    Nets::of(alloc, site, terrain)?.hits(alloc, f, steps)
+}
+
+impl<'a> Nets<'a> {
+    /// All hits of a table, as `hits_one` gives them.
+    pub fn hits<L: Ledger>(
+        &self,
+        alloc: Global,
+        f: &Frozen,
+        steps: &mut Steps<L>,
+    ) -> Result<Hits, NoMemory>
+        requires { IsCycleTable f.now }
+        ensures hits { IfOk result (λ found. found.hits.items ≡ hits_of self.now f.now) }
+        ensures order { IfOk result (λ found. AreInOrder found.hits.items) }
+        ensures room { IfOk result (λ found. AreInRoom found.hits.items) }
+        ensures examined { IfOk result (λ found. found.examined ≡ count_examined self.now.site f.now) }
+        ensures counted { IfOk result (λ found. steps.new ≡ steps.old + found.examined) }
+        ensures later { steps.old ≤ steps.new }
+    {
+        let site = self.site();
+        let all = watched(alloc, f, site)?;
+        let pairs = enabled(alloc, site, Net::Stca, &all)?;
+        let mut found = pair_hits(alloc, site, &pairs, steps)?;
+        add_row_hits(alloc, self, f.time, &all, &mut found.hits)?;
+        Ok(found)
+    }
 }

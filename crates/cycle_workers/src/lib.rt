@@ -4,6 +4,7 @@
 mod funnels;
 mod ground;
 mod hits;
+pub mod laws;
 mod movers;
 mod nets;
 mod pair;
@@ -17,6 +18,3 @@ pub use nets::Nets;
 
 /// Want of memory.
 pub type NoMemory = std::alloc::AllocError;
-
-#[cfg(test)]
-mod tests;

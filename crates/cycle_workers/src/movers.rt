@@ -1,7 +1,6 @@
 //! The rows that a net looks at.
 ghost use Rattle.std.specs.Prelude.{◌≡◌, IfOk, IfSome, All};
-ghost use Rattle.alert_states.specs.Subjects.{place as place_of};
-ghost use Rattle.site_params.specs.Ranges.{IsSite};
+ghost use Rattle.site_types.specs.Ranges.{IsSite};
 ghost use Rattle.track_motion.specs.Motions.{CanMove, InRange};
 ghost use Rattle.track_table.specs.Proper.{IsProper};
 ghost use Rattle.cycle_workers.specs.Eligible.{enabled as those, is_enabled as enables, is_left_out as left_out, is_watched as watched_track, movers, watched as watched_rows, watched_of};
@@ -9,8 +8,7 @@ ghost use Rattle.cycle_workers.specs.Movers.{AreMovers, IsKey, IsMover};
 
 use crate::NoMemory;
 use crate::regions::set_of;
-use alert_states::Net;
-use site_params::{APM, APW, MSAW, STCA, Site};
+use site_types::{Net, Site};
 use std::alloc::Global;
 use track_motion::{Motion, Stamped, Track, TrackKey, motion_at};
 use track_table::Frozen;
@@ -23,18 +21,6 @@ pub struct Mover {
     pub set: u32,
 }
 
-/// A net's place in lists of four.
-fn place(net: Net) -> usize
-    ensures { result ≡ place_of net }
-{
-    match net {
-        Net::Stca => STCA,
-        Net::Msaw => MSAW,
-        Net::Apw => APW,
-        Net::Apm => APM,
-    }
-}
-
 /// A parameter set enables the net.
 fn is_enabled(site: &Site, net: Net, set: u32) -> bool
     ensures { result ≡ enables site.now net set }
@@ -42,7 +28,7 @@ fn is_enabled(site: &Site, net: Net, set: u32) -> bool
     site.sets
         .as_slice()
         .get(set as usize)
-        .is_some_and(|set| set.enabled[place(net)])
+        .is_some_and(|set| set.enables(net))
 }
 
 /// The site leaves the code out.

@@ -1,13 +1,13 @@
 //! The nets of a site, made ready once for all cycles.
 ghost use Rattle.std.specs.Prelude.{◌≡◌, IfOk};
-ghost use Rattle.site_params.specs.Ranges.{AreFunnels, AreVolumes, IsSite};
+ghost use Rattle.site_types.specs.Ranges.{AreFunnels, AreVolumes, IsSite};
 ghost use Rattle.terrain_file.specs.Ranges.{IsTerrain};
 ghost use Rattle.cycle_workers.specs.Settings.{setting};
 
 use crate::NoMemory;
 use airspace_volumes::Area;
 use approach_funnel::Approach;
-use site_params::Site;
+use site_types::Site;
 use std::alloc::Global;
 use std::marker::Model;
 use terrain_cells::Ground;

@@ -1,16 +1,16 @@
 //! What becomes of a pair.
 ghost use Rattle.std.specs.Prelude.{◌≡◌, ◌+◌, Some, IfSome};
 ghost use Rattle.alert_states.specs.Figures.{FitsOctets};
-ghost use Rattle.site_params.specs.Ranges.{IsSet, IsSite};
+ghost use Rattle.site_types.specs.Ranges.{IsSet, IsSite};
 ghost use Rattle.stca_fine.specs.Stca.{IsInRoom};
 ghost use Rattle.cycle_workers.specs.Hits.{figures as figures_of, flags as flags_of, hit_of, pair_hit as hit_in, pair_set as set_in};
 ghost use Rattle.cycle_workers.specs.Movers.{IsMover, IsSetOf};
 
 use crate::movers::Mover;
 use crate::rows::set_of;
-use alert_states::{CURRENT_PROXIMITY, Hit, HitData, Net, Subject, URGENT};
+use alert_states::{CURRENT_PROXIMITY, Hit, HitData, Subject, URGENT};
 use outside_io::Steps;
-use site_params::{Set, Site};
+use site_types::{Net, Set, Site};
 use stca_fine::{StcaHit, examine};
 use std::sync::ledger::Ledger;
 

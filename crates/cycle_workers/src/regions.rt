@@ -1,12 +1,12 @@
 //! Where which parameter set holds.
 ghost use Rattle.std.specs.Prelude.{◌≡◌, ◌<◌, ◌&&◌, int_le, length};
 ghost use Rattle.polygon_plan.specs.Ranges.{ArePoints, IsPlace};
-ghost use Rattle.site_params.specs.Ranges.{IsPolygon, IsSite};
+ghost use Rattle.site_types.specs.Ranges.{IsPolygon, IsSite};
 ghost use Rattle.track_motion.specs.Motions.{InRange};
 ghost use Rattle.cycle_workers.specs.Eligible.{is_in_region as in_region, set_of as set_number};
 
 use polygon_plan::inside;
-use site_params::{Region, Site};
+use site_types::{Region, Site};
 use track_motion::Motion;
 
 /// The level of the motion at tick 0 is from the region's floor to its ceiling.

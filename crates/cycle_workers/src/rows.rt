@@ -1,14 +1,14 @@
 //! What a hit of a row by an object of the site is to alerts.
 ghost use Rattle.std.specs.Prelude.{◌≡◌, ◌<◌, ◌^◌};
 ghost use Rattle.alert_states.specs.Figures.{FitsOctets};
-ghost use Rattle.site_params.specs.Ranges.{IsSite};
+ghost use Rattle.site_types.specs.Ranges.{IsSite};
 ghost use Rattle.cycle_workers.specs.Firsts.{IsSoon};
 ghost use Rattle.cycle_workers.specs.Hits.{row_figures as figures_of, row_subject as subject_of, tick_hit as hit_by};
 ghost use Rattle.cycle_workers.specs.Movers.{IsMover, IsSetOf};
 
 use crate::movers::Mover;
-use alert_states::{Hit, HitData, Net, Subject, URGENT};
-use site_params::{Set, Site};
+use alert_states::{Hit, HitData, Subject, URGENT};
+use site_types::{Net, Set, Site};
 use tick_sets::TickHit;
 use track_motion::TrackKey;
 

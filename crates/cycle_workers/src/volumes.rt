@@ -2,7 +2,7 @@
 ghost use Rattle.std.specs.Prelude.{◌≡◌, ◌++◌, pos, ◌≤ℤ◌, IfOk, IfSome, OnOk};
 ghost use Rattle.std.specs.List.{filter_map};
 ghost use Rattle.alert_states.specs.Figures.{AreInRoom, FitsOctets};
-ghost use Rattle.site_params.specs.Ranges.{AreVolumes, IsSet, IsSite, IsVolume};
+ghost use Rattle.site_types.specs.Ranges.{AreVolumes, IsSet, IsSite, IsVolume};
 ghost use Rattle.track_motion.specs.Motions.{InRange};
 ghost use Rattle.cycle_workers.specs.Hits.{apw_hit_by, hits_by, numbered};
 ghost use Rattle.cycle_workers.specs.Movers.{AreMovers};
@@ -10,9 +10,9 @@ ghost use Rattle.cycle_workers.specs.Movers.{AreMovers};
 use crate::NoMemory;
 use crate::movers::Mover;
 use crate::rows::{number_of, set_of, tick_hit};
-use airspace_volumes::{Area, apw};
-use alert_states::{Hit, Net};
-use site_params::{Set, Site};
+use airspace_volumes::Area;
+use alert_states::Hit;
+use site_types::{Net, Set, Site};
 use std::alloc::Global;
 use tick_sets::laws::searches_find_the_first;
 
@@ -34,7 +34,7 @@ fn examine_volume(
 {
     // The proof takes this law; the call does nothing.
     searches_find_the_first();
-    let Some(hit) = apw(alloc, &m.motion, area, time, set)? else {
+    let Some(hit) = area.hit(alloc, &m.motion, time, set)? else {
         return Ok(None);
     };
     Ok(Some(tick_hit(Net::Apw, m, object, hit)))

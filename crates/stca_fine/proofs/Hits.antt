@@ -2,10 +2,10 @@
 use Rattle.std.proofs.Common.{◌≡◌, refl, sym, ◌∙◌, inl, inr, ℕ, zero, suc, ◌≤◌, ℤ, pos, ◌≤ℤ◌, Bool, true, false, true≢false, cond, if◌then◌else◌, int_lt, nat_lt, Option, Some, None, IsSome, IfSome, option_map, unsigned_abs, arith}
 use Rattle.std.proofs.lemmas.Bool.{and_from, and_left, and_right, and_parts, cases_lt, ltb-true, ltb-false}
 use Rattle.std.proofs.lemmas.Int.{ints}
-use Rattle.site_params.specs.Ranges.{IsSet}
-use Rattle.site_params.specs.Looks.{look_of}
-use Rattle.site_params.specs.declared.site.Set.{Set}
-use Rattle.site_params.specs.declared.site.TheConstants.{STCA}
+use Rattle.site_types.specs.Ranges.{IsSet}
+use Rattle.site_types.specs.Looks.{look_of}
+use Rattle.site_types.specs.declared.site.Set.{Set}
+use Rattle.site_types.specs.declared.net.TheConstants.{STCA}
 use Rattle.tick_sets.specs.Roots.{least_tick_of}
 use Rattle.tick_sets.specs.Searches.{Finds}
 use Rattle.track_motion.specs.declared.motion.Motion.{Motion}

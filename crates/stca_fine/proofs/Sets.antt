@@ -4,13 +4,13 @@ use Rattle.std.specs.Int.{int_max}
 use Rattle.std.proofs.lemmas.Bool.{cond_both}
 use Rattle.std.proofs.lemmas.Int.{ints, clamps}
 use Rattle.std.proofs.lemmas.Option.{unwrap_or-slice_get}
-use Rattle.site_fields.specs.Ranges.{IsHeight, IsIn}
-use Rattle.site_params.specs.Ranges.{IsSet}
-use Rattle.site_params.specs.declared.ranges.TheConstants.{SEPARATION_FEET, SEPARATION_METRES}
-use Rattle.site_fields.specs.declared.numbers.TheConstants.{LENGTH_UNITS_PER_METRE}
-use Rattle.site_params.specs.Looks.{look_of}
-use Rattle.site_params.specs.declared.site.Set.{Set}
-use Rattle.site_params.specs.declared.site.TheConstants.{STCA}
+use Rattle.site_types.specs.Limits.{IsHeight, IsIn}
+use Rattle.site_types.specs.Ranges.{IsSet}
+use Rattle.site_types.specs.declared.ranges.TheConstants.{SEPARATION_FEET, SEPARATION_METRES}
+use Rattle.site_types.specs.declared.units.TheConstants.{LENGTH_UNITS_PER_METRE}
+use Rattle.site_types.specs.Looks.{look_of}
+use Rattle.site_types.specs.declared.site.Set.{Set}
+use Rattle.site_types.specs.declared.net.TheConstants.{STCA}
 use Rattle.tick_sets.specs.Inequalities.{IsLook}
 use Rattle.track_motion.specs.declared.motion.Motion.{Motion}
 use Rattle.stca_fine.specs.Relative.{IsLimit}

@@ -1,9 +1,9 @@
 -- Short term conflict alert in words: when a pair is hit, and what its first and its closest tick are (this project's profile).
 use Rattle.std.specs.Prelude.{◌≡◌, ◌⊎◌, ℕ, ◌<◌, ◌≤◌, ℤ, pos, ◌≤ℤ◌}
 use Rattle.tick_sets.specs.Plane.{scalar_product}
-use Rattle.site_params.specs.Looks.{look_of}
-use Rattle.site_params.specs.declared.site.Set.{Set}
-use Rattle.site_params.specs.declared.site.TheConstants.{STCA}
+use Rattle.site_types.specs.Looks.{look_of}
+use Rattle.site_types.specs.declared.site.Set.{Set}
+use Rattle.site_types.specs.declared.net.TheConstants.{STCA}
 use Rattle.track_motion.specs.declared.motion.Motion.{Motion}
 use Rattle.stca_fine.specs.Relative.{IsWithin, relative, squared_at}
 use Rattle.stca_fine.specs.Stca.{now_v_of, v_of}

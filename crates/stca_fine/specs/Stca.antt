@@ -2,9 +2,9 @@
 -- material for STCA; rules and numbers are this project's profile).
 use Rattle.std.specs.Prelude.{ℕ, ◌≤◌, min, Bool, ◌&&◌, ◌||◌, int_le, find, Option, Some, option_map, ℤ, pos, ◌≤ℤ◌, if◌then◌else◌}
 use Rattle.tick_sets.specs.Searches.{ticks_to}
-use Rattle.site_params.specs.Looks.{look_of}
-use Rattle.site_params.specs.declared.site.Set.{Set}
-use Rattle.site_params.specs.declared.site.TheConstants.{STCA}
+use Rattle.site_types.specs.Looks.{look_of}
+use Rattle.site_types.specs.declared.site.Set.{Set}
+use Rattle.site_types.specs.declared.net.TheConstants.{STCA}
 use Rattle.track_motion.specs.declared.motion.Motion.{Motion}
 use Rattle.stca_fine.specs.declared.hit.StcaHit.{StcaHit}
 use Rattle.stca_fine.specs.declared.hit.TheConstants.{LARGEST_CHS, LARGEST_SEPARATION}

@@ -1,12 +1,12 @@
 //! The early way out: pairs that one axis alone keeps out of every limit.
 ghost use Rattle.std.specs.Prelude.{◌≡◌, None, IsTrue};
 ghost use Rattle.tick_sets.specs.Inequalities.{IsLook};
-ghost use Rattle.site_params.specs.Ranges.{IsSet};
+ghost use Rattle.site_types.specs.Ranges.{IsSet};
 ghost use Rattle.stca_fine.specs.Relative.{ArePair, IsDrift, IsLimit, StaysBeyond};
 ghost use Rattle.stca_fine.specs.Stca.{stca_hit};
 
-use crate::limits::{greater_h, greater_v, look_ahead};
-use site_params::Set;
+use crate::limits::{greater_h, greater_v};
+use site_types::{Net, Set};
 use tick_sets::laws::searches_find_the_first;
 use track_motion::Motion;
 
@@ -19,7 +19,7 @@ pub fn stay_apart(a: &Motion, b: &Motion, set: &Set) -> bool
 {
     // The proof takes this law; the call does nothing.
     searches_find_the_first();
-    let look = look_ahead(set);
+    let look = set.look_ahead(Net::Stca);
     let h = greater_h(set);
     stays_beyond(b.x - a.x, b.vx - a.vx, h, look)
         || stays_beyond(b.y - a.y, b.vy - a.vy, h, look)

@@ -1,11 +1,18 @@
 //! Laws of the definition of a hit: each is the contract of a function that does nothing.
-ghost use Rattle.std.specs.Prelude.{◌↔◌, IfSome, IsSome};
-ghost use Rattle.site_params.specs.declared.site.Set.{Set};
+ghost use Rattle.std.specs.Prelude.{◌≡◌, ◌↔◌, IfSome, IsSome};
+ghost use Rattle.site_types.specs.declared.site.Set.{Set};
 ghost use Rattle.track_motion.specs.declared.motion.Motion.{Motion};
 ghost use Rattle.stca_fine.specs.Conflicts.{IsClosest, IsFirst, IsHit};
 ghost use Rattle.stca_fine.specs.Stca.{stca_hit};
+ghost use Rattle.stca_fine.specs.declared.hit.TheConstants.{LARGEST_CHS, LARGEST_SEPARATION};
 
 use tick_sets::laws::searches_find_the_first;
+
+/// The numbers: the most of 24 bits and of 16 bits.
+pub fn numbers()
+    ensures chs { LARGEST_CHS ≡ 16777215 }
+    ensures separation { LARGEST_SEPARATION ≡ 65535 }
+{}
 
 /// A pair is hit exactly where current proximity holds, or linear prediction at some tick of the look-ahead.
 pub fn hit_where_a_filter_holds()

@@ -10,6 +10,3 @@ mod relative;
 
 pub use hit::{LARGEST_CHS, LARGEST_SEPARATION, StcaHit};
 pub use pair::examine;
-
-#[cfg(test)]
-mod tests;

@@ -1,22 +1,11 @@
-//! What a set says of a pair: how far it looks ahead, and the limits.
-ghost use Rattle.std.specs.Prelude.{◌≡◌, ◌≤ℤ◌, pos};
-ghost use Rattle.tick_sets.specs.Inequalities.{IsLook};
-ghost use Rattle.site_params.specs.Looks.{look_of};
-ghost use Rattle.site_params.specs.Ranges.{IsSet};
+//! The limits that a set says of a pair.
+ghost use Rattle.std.specs.Prelude.{◌≡◌, ◌≤ℤ◌};
+ghost use Rattle.site_types.specs.Ranges.{IsSet};
 ghost use Rattle.stca_fine.specs.Relative.{IsLimit};
 ghost use Rattle.stca_fine.specs.Stca.{by_split as split_limit, now_v_of, v_of};
 
-use site_params::{STCA, Set};
+use site_types::Set;
 use track_motion::Motion;
-
-/// The last tick that the set looks ahead to.
-pub fn look_ahead(set: &Set) -> i64
-    requires { IsSet set.now }
-    ensures look { result ≡ pos (look_of STCA set.now) }
-    ensures range { IsLook result }
-{
-    set.look[STCA]
-}
 
 /// A pair's vertical limit: the lower one where both levels are at or below the split.
 pub fn by_split(a: &Motion, b: &Motion, set: &Set, low: i64, high: i64) -> i64

@@ -1,15 +1,15 @@
 //! Short term conflict alert: whether a pair is hit, and the figures of the hit.
 ghost use Rattle.std.specs.Prelude.{◌≡◌, ◌+◌, ◌||◌, int_le, IfSome, min, pos, unsigned_abs};
-ghost use Rattle.site_params.specs.Ranges.{IsSet};
+ghost use Rattle.site_types.specs.Ranges.{IsSet};
 ghost use Rattle.stca_fine.specs.Relative.{ArePair};
 ghost use Rattle.stca_fine.specs.Stca.{IsAhead, IsInRoom, figures as figures_of, stca_hit};
 
 use crate::early::stay_apart;
 use crate::hit::{LARGEST_CHS, LARGEST_SEPARATION, StcaHit};
-use crate::limits::{by_split, look_ahead};
+use crate::limits::by_split;
 use crate::relative::Relative;
 use outside_io::Steps;
-use site_params::Set;
+use site_types::{Net, Set};
 use std::sync::ledger::Ledger;
 use tick_sets::laws::searches_find_the_first;
 use track_motion::Motion;
@@ -49,7 +49,7 @@ fn examine_near(a: &Motion, b: &Motion, set: &Set) -> Option<StcaHit>
     // The proof takes this law; the call does nothing.
     searches_find_the_first();
     let v = by_split(a, b, set, set.v_low, set.v_high);
-    let first = apart.first_within(set.h, v, look_ahead(set))?;
+    let first = apart.first_within(set.h, v, set.look_ahead(Net::Stca))?;
     Some(figures(&apart, set, false, first))
 }
 
@@ -60,7 +60,7 @@ fn figures(apart: &Relative, set: &Set, current: bool, first: i64) -> StcaHit
     ensures figures { result ≡ figures_of apart.now set.now current (unsigned_abs first) }
     ensures room { IsInRoom set.now result }
 {
-    let closest = apart.closest_tick(look_ahead(set));
+    let closest = apart.closest_tick(set.look_ahead(Net::Stca));
     StcaHit {
         first,
         closest: i64::from(closest),

@@ -2,8 +2,8 @@
 use Rattle.std.proofs.Common.{◌≡◌, refl, ℕ, ℤ, pos, Bool, Option, Some, None, find, unsigned_abs, arith}
 use Rattle.std.proofs.lemmas.Int.{ints, by_lt_z}
 use Rattle.tick_sets.specs.Searches.{Finds, hit_from, ticks_to}
-use Rattle.site_params.specs.Looks.{look_of}
-use Rattle.site_params.specs.declared.site.Set.{Set}
+use Rattle.site_types.specs.Looks.{look_of}
+use Rattle.site_types.specs.declared.site.Set.{Set}
 use Rattle.terrain_file.specs.declared.terrain.Terrain.{Terrain}
 use Rattle.track_motion.specs.declared.motion.Motion.{Motion}
 use Rattle.terrain_cells.specs.Msaw.{first_too_low, is_too_low_at, msaw_hit}

@@ -5,8 +5,8 @@ use Rattle.std.specs.Ordering.{int_eq}
 use Rattle.std.proofs.lemmas.Bool.{cases_lt}
 use Rattle.std.proofs.lemmas.Bool.Decides.{Decides-int_eq}
 use Rattle.std.proofs.lemmas.Int.{ints}
-use Rattle.site_params.specs.Looks.{look_of}
-use Rattle.site_params.specs.declared.site.Set.{Set}
+use Rattle.site_types.specs.Looks.{look_of}
+use Rattle.site_types.specs.declared.site.Set.{Set}
 use Rattle.terrain_file.specs.Ranges.{IsTerrain}
 use Rattle.terrain_file.specs.declared.terrain.Terrain.{Terrain}
 use Rattle.terrain_file.specs.declared.terrain.TheConstants.{NO_HEIGHT}

@@ -4,9 +4,9 @@ use Rattle.std.specs.Prelude.{ℕ, Bool, false, int_lt, find, Option, Some, None
 use Rattle.tick_sets.specs.Inequalities.{line_at}
 use Rattle.tick_sets.specs.Searches.{hit_from, ticks_to}
 use Rattle.tick_sets.specs.declared.TickHit.{TickHit}
-use Rattle.site_params.specs.Looks.{look_of}
-use Rattle.site_params.specs.declared.site.Set.{Set}
-use Rattle.site_params.specs.declared.site.TheConstants.{MSAW}
+use Rattle.site_types.specs.Looks.{look_of}
+use Rattle.site_types.specs.declared.site.Set.{Set}
+use Rattle.site_types.specs.declared.net.TheConstants.{MSAW}
 use Rattle.terrain_file.specs.declared.terrain.Terrain.{Terrain}
 use Rattle.track_motion.specs.declared.motion.Motion.{Motion}
 use Rattle.track_motion.specs.declared.motion.TheConstants.{HEIGHT_UNITS_PER_25_FEET}

@@ -1,9 +1,9 @@
 -- Minimum safe altitude warning in words: which cell is under a track, when a track is hit, and what the first tick of the hit is (this project's profile).
 use Rattle.std.specs.Prelude.{◌≡◌, ◌≢◌, ℕ, ◌+◌, ◌*◌, ◌<◌, ◌≤◌, slice_get, Some, ℤ, pos, ◌+ℤ◌, ◌*ℤ◌, ◌≤ℤ◌, ◌<ℤ◌}
 use Rattle.tick_sets.specs.Inequalities.{line_at}
-use Rattle.site_params.specs.Looks.{look_of}
-use Rattle.site_params.specs.declared.site.Set.{Set}
-use Rattle.site_params.specs.declared.site.TheConstants.{MSAW}
+use Rattle.site_types.specs.Looks.{look_of}
+use Rattle.site_types.specs.declared.site.Set.{Set}
+use Rattle.site_types.specs.declared.net.TheConstants.{MSAW}
 use Rattle.terrain_file.specs.declared.terrain.Terrain.{Terrain}
 use Rattle.terrain_file.specs.declared.terrain.TheConstants.{NO_HEIGHT}
 use Rattle.track_motion.specs.declared.motion.Motion.{Motion}

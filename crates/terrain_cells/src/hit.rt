@@ -1,7 +1,7 @@
 //! Minimum safe altitude warning: whether a track is hit by a terrain.
 ghost use Rattle.std.specs.Prelude.{◌≡◌, pos};
 ghost use Rattle.tick_sets.specs.Inequalities.{IsLook};
-ghost use Rattle.site_params.specs.Ranges.{IsSet};
+ghost use Rattle.site_types.specs.Ranges.{IsSet};
 ghost use Rattle.terrain_file.specs.Ranges.{IsTerrain};
 ghost use Rattle.track_motion.specs.Motions.{InRange};
 ghost use Rattle.terrain_cells.specs.Msaw.{is_too_low_at, msaw_hit};
@@ -10,24 +10,36 @@ ghost use Rattle.terrain_cells.specs.Walks.{AreTicks, FindsFrom};
 use crate::axis::{Axis, Stay};
 use crate::ground::Ground;
 use crate::height::{first_under, height_in};
-use crate::limits::look_ahead;
-use site_params::Set;
+use site_types::{Net, Set};
 use terrain_file::Terrain;
 use tick_sets::TickHit;
 use tick_sets::laws::searches_find_the_first;
 use track_motion::Motion;
 
-/// The hit of a track by the terrain, by the track's set. None where it isn't hit.
-pub fn msaw(m: &Motion, ground: &Ground<'_>, set: &Set) -> Option<TickHit>
+/// The hit of a track by a terrain, by the track's set. None where it isn't hit. It looks through the terrain's
+/// heights for the greatest first: who asks of one terrain often has its ground made ready once.
+pub fn msaw(m: &Motion, terrain: &Terrain, set: &Set) -> Option<TickHit>
     requires motion { InRange m.now }
-    requires terrain { IsTerrain ground.now }
+    requires terrain { IsTerrain terrain.now }
     requires set { IsSet set.now }
-    ensures { result ≡ msaw_hit m.now ground.now set.now }
+    ensures { result ≡ msaw_hit m.now terrain.now set.now }
 {
-    // The proof takes this law; the call does nothing.
-    searches_find_the_first();
-    let first = first_too_low(m, ground, look_ahead(set))?;
-    Some(TickHit::from_tick(first, set.urgent))
+    Ground::of(terrain).hit(m, set)
+}
+
+impl<'a> Ground<'a> {
+    /// The hit of a track by the terrain, by the track's set. None where it isn't hit.
+    pub fn hit(&self, m: &Motion, set: &Set) -> Option<TickHit>
+        requires motion { InRange m.now }
+        requires terrain { IsTerrain self.now }
+        requires set { IsSet set.now }
+        ensures { result ≡ msaw_hit m.now self.now set.now }
+    {
+        // The proof takes this law; the call does nothing.
+        searches_find_the_first();
+        let first = first_too_low(m, self, set.look_ahead(Net::Msaw))?;
+        Some(TickHit::from_tick(first, set.urgent))
+    }
 }
 
 /// The first tick of `0..=look` at which the track is too low.

@@ -1,7 +1,7 @@
 //! Laws of the definition of a hit: each is the contract of a function that does nothing. Their proofs take
 //! the law of searches, whose call does nothing either.
 ghost use Rattle.std.specs.Prelude.{◌↔◌, IfSome, IsSome};
-ghost use Rattle.site_params.specs.declared.site.Set.{Set};
+ghost use Rattle.site_types.specs.declared.site.Set.{Set};
 ghost use Rattle.terrain_file.specs.Ranges.{IsTerrain};
 ghost use Rattle.terrain_file.specs.declared.terrain.Terrain.{Terrain};
 ghost use Rattle.track_motion.specs.declared.motion.Motion.{Motion};

@@ -7,10 +7,6 @@ mod ground;
 mod height;
 mod hit;
 pub mod laws;
-mod limits;
 
 pub use ground::Ground;
 pub use hit::msaw;
-
-#[cfg(test)]
-mod tests;

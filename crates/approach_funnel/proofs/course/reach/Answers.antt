@@ -1,8 +1,8 @@
 use Rattle.std.proofs.Common.{ap, ◌∙◌, ◌≤◌, ◌^◌, ℤ, ◌*ℤ◌, arith}
 use Rattle.std.specs.Int.RustNames.{unsigned_abs}
 use Rattle.std.proofs.lemmas.Int.{ints}
-use Rattle.site_params.specs.declared.funnel.Funnel.{Funnel}
-use Rattle.site_fields.specs.declared.numbers.TheConstants.{LENGTH_UNITS_PER_METRE}
+use Rattle.site_types.specs.declared.funnel.Funnel.{Funnel}
+use Rattle.site_types.specs.declared.units.TheConstants.{LENGTH_UNITS_PER_METRE}
 use Rattle.approach_funnel.proofs.Fits.{length_small, reach_fits, reach_is}
 use Rattle.approach_funnel.proofs.course.reach.Goals as goal
 use Rattle.approach_funnel.proofs.course.reach.Goals.{After-length}

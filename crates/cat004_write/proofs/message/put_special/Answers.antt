@@ -1,6 +1,6 @@
 use Rattle.std.proofs.Common.{◌≡◌, ◌+◌, length, length-append, refl, append_assoc, arith}
-use Rattle.alert_states.specs.declared.event.Net.{Net}
-use Rattle.alert_states.specs.declared.event.Net.TheVariants.{Stca, Msaw, Apw, Apm}
+use Rattle.site_types.specs.declared.net.Net.{Net}
+use Rattle.site_types.specs.declared.net.Net.TheVariants.{Stca, Msaw, Apw, Apm}
 use Rattle.alert_states.specs.declared.event.Subject.{Subject}
 use Rattle.cat004_write.specs.Messages.{about, special_contents}
 use Rattle.cat004_write.proofs.message.put_special.Goals as goal

@@ -1,7 +1,7 @@
 use Rattle.std.proofs.Common.{◌≡◌, refl, ap, List, [], ◌∷◌, ◌++◌, w64, to_z, of_z}
 use Rattle.std.proofs.lemmas.Int.{to_z-of_z}
 use Rattle.alert_states.specs.declared.event.Hit.{Hit}
-use Rattle.alert_states.specs.declared.event.Net.TheVariants.{Apm, Apw, Msaw}
+use Rattle.site_types.specs.declared.net.Net.TheVariants.{Apm, Apw, Msaw}
 use Rattle.cycle_workers.specs.Eligible.{enabled}
 use Rattle.cycle_workers.specs.Hits.{apm_hit_by, apw_hit_by, hits_by, msaw_hit_by}
 use Rattle.cycle_workers.proofs.hits.add_row_hits.Goals as goal

@@ -1,7 +1,7 @@
 use Rattle.std.proofs.Common.{◌≡◌, ◌∙◌, Some, option_map, sym, ap, w64, to_z, of_z}
 use Rattle.std.proofs.lemmas.Int.{to_z-of_z}
 use Rattle.airspace_volumes.specs.Apw.{apw_hit}
-use Rattle.alert_states.specs.declared.event.Net.TheVariants.{Apw}
+use Rattle.site_types.specs.declared.net.Net.TheVariants.{Apw}
 use Rattle.cycle_workers.specs.Hits.{tick_hit}
 use Rattle.cycle_workers.proofs.Soon.{volume_soon}
 use Rattle.cycle_workers.proofs.volumes.examine_volume.Goals as goal

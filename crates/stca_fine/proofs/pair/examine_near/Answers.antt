@@ -1,7 +1,7 @@
 use Rattle.std.proofs.Common.{rules, ◌≡◌, sym, ap, ◌∙◌, ℕ, pos, Some, option_map, arith, w64, FitsSigned, to_z, of_z}
 use Rattle.std.proofs.lemmas.Int.{ints, to_z-of_z}
-use Rattle.site_params.specs.Looks.{look_of}
-use Rattle.site_params.specs.declared.site.TheConstants.{STCA}
+use Rattle.site_types.specs.Looks.{look_of}
+use Rattle.site_types.specs.declared.net.TheConstants.{STCA}
 use Rattle.stca_fine.specs.Stca.{first_predicted, is_current, v_of}
 use Rattle.stca_fine.proofs.Apart.{as_is}
 use Rattle.stca_fine.proofs.Hits.{hit_ahead, hit_now, map_some, none_ahead, predicted_ahead}

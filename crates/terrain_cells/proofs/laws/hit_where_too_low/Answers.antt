@@ -1,5 +1,5 @@
 use Rattle.std.proofs.Common.{pos}
-use Rattle.site_params.specs.Looks.{look_of}
+use Rattle.site_types.specs.Looks.{look_of}
 use Rattle.terrain_cells.specs.Msaw.{is_too_low_at}
 use Rattle.terrain_cells.proofs.Words.{hit_said}
 use Rattle.terrain_cells.proofs.laws.hit_where_too_low.Goals as goal

@@ -1,8 +1,8 @@
 use Rattle.std.proofs.Common.{◌≡◌, ap, ◌∙◌, ℕ, pos, ◌*ℤ◌, ◌+ℤ◌, arith, w64, to_z, of_z}
 use Rattle.std.specs.Int.RustNames.{unsigned_abs}
 use Rattle.std.proofs.lemmas.Int.{ints, to_z-of_z, to_z_pos}
-use Rattle.site_params.specs.Ranges.{IsFunnel}
-use Rattle.site_params.specs.declared.funnel.Funnel.{Funnel}
+use Rattle.site_types.specs.Ranges.{IsFunnel}
+use Rattle.site_types.specs.declared.funnel.Funnel.{Funnel}
 use Rattle.tick_sets.specs.Plane.{squared_length}
 use Rattle.tick_sets.specs.Roots.{root}
 use Rattle.approach_funnel.proofs.Fits.{direction, length_small, squared_is}

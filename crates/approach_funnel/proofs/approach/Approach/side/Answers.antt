@@ -1,8 +1,8 @@
 use Rattle.std.proofs.Common.{◌≡◌, ap, ◌∙◌, ◌≤◌, ◌^◌, ℤ, ◌*ℤ◌, arith, w64}
 use Rattle.std.specs.Int.RustNames.{unsigned_abs}
 use Rattle.std.proofs.lemmas.Int.{ints, to_z-of_z}
-use Rattle.site_fields.specs.Ranges.{IsWithin}
-use Rattle.site_params.specs.declared.ranges.TheConstants.{HALF_METRES}
+use Rattle.site_types.specs.Limits.{IsWithin}
+use Rattle.site_types.specs.declared.ranges.TheConstants.{HALF_METRES}
 use Rattle.approach_funnel.specs.Approaches.{length_of}
 use Rattle.approach_funnel.specs.declared.units.TheConstants.{RUN_LENGTH}
 use Rattle.approach_funnel.proofs.Fits.{as_is, base_fits, base_is, base_within, length_small}

@@ -1,7 +1,0 @@
-use Rattle.std.proofs.Common.{refl}
-use Rattle.std.specs.List.Sorted.{IsStrictlySortedBy}
-use Rattle.alert_states.proofs.tests.expect_two.Goals as goal
-
-pub cycle-requires : goal.cycle-requires
-unfolding IsStrictlySortedBy
-cycle-requires g c = ((refl, tt), (tt, tt))

@@ -1,5 +1,0 @@
--- the ledger is the blank's
-use Rattle.cycle_engine.proofs.tests.no_pair.Given as goal
-
-abbrev pub ghosts-expect_cycles : goal.ghosts-expect_cycles
-ghosts-expect_cycles g a = record { name = a.blank.name; parts = a.blank.parts }
