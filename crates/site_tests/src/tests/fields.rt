@@ -38,68 +38,135 @@ fn at(number: u16) -> Field {
     Field { number, entry: 3 }
 }
 
+/// How a field is read.
+#[derive(Clone, Copy)]
+enum How {
+    Integer,
+    Unscaled,
+    Seconds,
+    Metres,
+    Height,
+    Octet,
+    OptionalInteger,
+    OptionalLevels,
+    OptionalText,
+    Boolean,
+    Text,
+    Inner,
+}
+
+use How::{
+    Boolean, Height, Inner, Integer, Metres, Octet, OptionalInteger, OptionalLevels, OptionalText,
+    Seconds, Text, Unscaled,
+};
+
+/// A field's number there, none where nothing need stand; of a text its length, and of a table its field `high`.
+fn read(place: &Place, how: How, number: u16, key: &str, limits: Limits) -> Read {
+    match how {
+        Integer => Ok(Some(i64::from(place.integer(number, key, limits)?))),
+        Unscaled => Ok(Some(place.unscaled(number, key, limits)?)),
+        Seconds => Ok(Some(place.seconds(number, key, limits)?)),
+        Metres => Ok(Some(place.metres(number, key, limits)?)),
+        Height => Ok(Some(place.height(number, key, limits)?)),
+        Octet => Ok(Some(i64::from(place.octet(number, key)?))),
+        OptionalInteger => wide(place.optional_integer(number, key, limits)?),
+        OptionalLevels => wide(place.optional_levels(number, key, limits)?),
+        OptionalText => length(place.optional_text(number, key, limits)?),
+        Boolean => Ok(Some(i64::from(place.boolean(number, key)?))),
+        Text => length(Some(place.text(number, key)?)),
+        Inner => inner(&place.table(number, key)?, limits),
+    }
+}
+
+type Read = Result<Option<i64>, SiteFault>;
+
+fn wide(found: Option<i32>) -> Read {
+    Ok(found.map(i64::from))
+}
+
+fn length(found: Option<&str>) -> Read {
+    Ok(found.map(|text| text.len() as i64))
+}
+
+fn inner(place: &Place, limits: Limits) -> Read {
+    wide(Some(place.integer(2, "high", limits)?))
+}
+
+/// How a field is read, its number and key, its limits, and what is read.
+#[derive(Clone, Copy)]
+struct Row(How, u16, &'static str, Limits, Found);
+
+/// A number, nothing, or why it is refused.
+#[derive(Clone, Copy)]
+enum Found {
+    Is(i64),
+    Nothing,
+    Range(i64),
+    Kind,
+    Missing,
+}
+
+use Found::{Is, Kind, Missing, Nothing, Range};
+
+fn read_of(found: Found, number: u16) -> Read {
+    match found {
+        Is(value) => Ok(Some(value)),
+        Nothing => Ok(None),
+        Range(value) => Err(SiteFault::Range(at(number), value)),
+        Kind => Err(SiteFault::Kind(at(number))),
+        Missing => Err(SiteFault::Missing(at(number))),
+    }
+}
+
+const ROWS: [Row; 25] = [
+    Row(Integer, 1, "low", HUNDRED, Is(-100)),
+    Row(Unscaled, 1, "high", HUNDRED, Is(100)),
+    Row(Integer, 1, "high", FEW, Range(100)),
+    Row(Seconds, 1, "low", HUNDRED, Is(-12_800)),
+    Row(Metres, 1, "high", HUNDRED, Is(51_200)),
+    Row(Height, 1, "feet", HUNDRED, Is(-92_160)),
+    Row(Height, 2, "between", HUNDRED, Range(30)),
+    Row(Octet, 1, "high", FEW, Is(100)),
+    Row(Octet, 3, "low", FEW, Range(-100)),
+    Row(Octet, 4, "on", FEW, Kind),
+    Row(Octet, 5, "none", FEW, Missing),
+    Row(OptionalInteger, 1, "none", FEW, Nothing),
+    Row(OptionalInteger, 1, "high", HUNDRED, Is(100)),
+    Row(OptionalLevels, 1, "feet", HUNDRED, Is(-3)),
+    Row(OptionalLevels, 6, "high", FEW, Range(100)),
+    Row(OptionalText, 1, "none", FEW, Nothing),
+    Row(OptionalText, 1, "name", HUNDRED, Is(5)),
+    Row(OptionalText, 7, "name", FEW, Range(5)),
+    Row(OptionalText, 7, "high", FEW, Kind),
+    Row(Boolean, 1, "on", FEW, Is(1)),
+    Row(Boolean, 2, "high", FEW, Kind),
+    Row(Text, 1, "name", FEW, Is(5)),
+    Row(Text, 1, "on", FEW, Kind),
+    Row(Inner, 1, "inner", FEW, Is(1)),
+    Row(Inner, 1, "numbers", FEW, Kind),
+];
+
 #[test]
-fn numbers_in_the_units_of_a_site(rt: HostRuntime) -> Result<(), Fail> {
+fn fields_by_their_kinds(rt: HostRuntime) -> Result<(), Fail> {
     let table = toml::table_from_slice(rt.alloc(), DOCUMENT.as_bytes())?;
     let place = place(&table);
-    assert_eq!(rt; place.integer(1, "low", HUNDRED), Ok(-100));
-    assert_eq!(rt; place.unscaled(1, "high", HUNDRED), Ok(100));
-    assert_eq!(rt;
-        place.integer(1, "high", FEW),
-        Err(SiteFault::Range(at(1), 100))
-    );
-    assert_eq!(rt; place.seconds(1, "low", HUNDRED), Ok(-12_800));
-    assert_eq!(rt; place.metres(1, "high", HUNDRED), Ok(51_200));
-    assert_eq!(rt; place.height(1, "feet", HUNDRED), Ok(-92_160));
-    assert_eq!(rt;
-        place.height(2, "between", HUNDRED),
-        Err(SiteFault::Range(at(2), 30))
-    );
-    assert_eq!(rt; place.octet(1, "high"), Ok(100));
-    assert_eq!(rt; place.octet(3, "low"), Err(SiteFault::Range(at(3), -100)));
-    assert_eq!(rt; place.octet(4, "on"), Err(SiteFault::Kind(at(4))));
-    assert_eq!(rt; place.octet(5, "none"), Err(SiteFault::Missing(at(5))));
+    for Row(how, number, key, limits, found) in &ROWS {
+        assert_eq!(rt;
+            read(&place, *how, *number, *key, *limits),
+            read_of(*found, *number),
+            "{key}"
+        );
+    }
     Ok(())
 }
 
 #[test]
-fn fields_that_may_be_absent(rt: HostRuntime) -> Result<(), Fail> {
+fn texts_as_they_stand(rt: HostRuntime) -> Result<(), Fail> {
     let table = toml::table_from_slice(rt.alloc(), DOCUMENT.as_bytes())?;
     let place = place(&table);
-    assert_eq!(rt; place.optional_integer(1, "none", FEW), Ok(None));
-    assert_eq!(rt; place.optional_integer(1, "high", HUNDRED), Ok(Some(100)));
-    assert_eq!(rt; place.optional_levels(1, "feet", HUNDRED), Ok(Some(-3)));
-    assert_eq!(rt;
-        place.optional_levels(6, "high", FEW),
-        Err(SiteFault::Range(at(6), 100))
-    );
-    assert!(rt; matches!(place.optional_text(1, "none", FEW), Ok(None)));
-    assert!(rt;
-        matches!(
-            place.optional_text(1, "name", HUNDRED),
-            Ok(Some("\u{E9}t\u{E9}"))
-        )
-    );
-    assert!(rt;
-        matches!(
-            place.optional_text(7, "name", FEW),
-            Err(SiteFault::Range(_, 5))
-        )
-    );
-    assert!(rt; matches!(place.optional_text(7, "high", FEW), Err(SiteFault::Kind(_))));
-    Ok(())
-}
-
-#[test]
-fn kinds(rt: HostRuntime) -> Result<(), Fail> {
-    let table = toml::table_from_slice(rt.alloc(), DOCUMENT.as_bytes())?;
-    let place = place(&table);
-    assert_eq!(rt; place.boolean(1, "on"), Ok(true));
-    assert_eq!(rt; place.boolean(2, "high"), Err(SiteFault::Kind(at(2))));
     assert!(rt; matches!(place.text(1, "name"), Ok("\u{E9}t\u{E9}")));
-    assert!(rt; matches!(place.text(1, "on"), Err(SiteFault::Kind(_))));
-    assert_eq!(rt; place.table(1, "inner")?.integer(2, "high", FEW), Ok(1));
-    assert!(rt; matches!(place.table(1, "numbers"), Err(SiteFault::Kind(_))));
+    let read = place.optional_text(1, "name", HUNDRED);
+    assert!(rt; matches!(read, Ok(Some("\u{E9}t\u{E9}"))));
     Ok(())
 }
 
