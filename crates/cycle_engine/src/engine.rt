@@ -138,6 +138,8 @@ impl<'a> Engine<'a> {
         ensures louder { K.faults sink.old ≤ K.faults sink.new }
         ensures later { steps.old ≤ steps.new }
     {
+        // The proof takes this time's range: the number of the next cycle fits because it does.
+        let _time = f.time;
         let site = self.nets.site();
         let found = self.nets.hits(self.alloc, f, steps)?;
         let firsts = tell_events(

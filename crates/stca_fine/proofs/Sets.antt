@@ -1,31 +1,16 @@
--- The ranges of a set's look-ahead and limits.
-use Rattle.std.proofs.Common.{◌≡◌, ◌<◌, ℤ, pos, ◌≤ℤ◌, Bool, true, false, cond, ◌&&◌, length, slice_index_or, int_le, arith, w64, to_z, of_z}
+-- The ranges of a set's limits.
+use Rattle.std.proofs.Common.{◌≡◌, ℤ, pos, ◌≤ℤ◌, Bool, true, false, cond, ◌&&◌, int_le, arith, w64, to_z, of_z}
 use Rattle.std.specs.Int.{int_max}
 use Rattle.std.proofs.lemmas.Bool.{cond_both}
 use Rattle.std.proofs.lemmas.Int.{ints, clamps}
-use Rattle.std.proofs.lemmas.Option.{unwrap_or-slice_get}
 use Rattle.site_types.specs.Limits.{IsHeight, IsIn}
-use Rattle.site_types.specs.Ranges.{IsSet}
 use Rattle.site_types.specs.declared.ranges.TheConstants.{SEPARATION_FEET, SEPARATION_METRES}
 use Rattle.site_types.specs.declared.units.TheConstants.{LENGTH_UNITS_PER_METRE}
-use Rattle.site_types.specs.Looks.{look_of}
 use Rattle.site_types.specs.declared.site.Set.{Set}
-use Rattle.site_types.specs.declared.net.TheConstants.{STCA}
-use Rattle.tick_sets.specs.Inequalities.{IsLook}
 use Rattle.track_motion.specs.declared.motion.Motion.{Motion}
 use Rattle.stca_fine.specs.Relative.{IsLimit}
 use Rattle.stca_fine.specs.Stca.{by_split}
 use Rattle.stca_fine.proofs.Apart.{as_is}
-
-pub look_in : (set : Set) → 0 < length set.look → IsSet set → IsLook (slice_index_or set.look 0 (pos 0))
-look_in set some is_set =
-    let look = is_set.look 0 (pos 0) some in
-    let low = look.low in
-    let high = look.high in
-    record { low = omega (arith, ints); high = omega (arith, ints) }
-
-pub look_is : (set : Set) → pos 0 ≤ℤ slice_index_or set.look 0 (pos 0) → slice_index_or set.look 0 (pos 0) ≡ pos (look_of STCA set)
-look_is set low = rw (unwrap_or-slice_get set.look 0 (pos 0)) (omega (arith, ints))
 
 pub length_limit : (h : ℤ) → IsIn SEPARATION_METRES LENGTH_UNITS_PER_METRE h → IsLimit h
 length_limit h range =
