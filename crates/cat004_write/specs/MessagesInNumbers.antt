@@ -1,7 +1,7 @@
 -- Messages in plain numerals (this project's profile after ASTERIX part 4): an example of each net.
 use Rattle.std.specs.Prelude.{ℕ, ◌≡◌, ◌≤◌, [], ◌∷◌, Some, None}
 use Rattle.track_motion.specs.declared.track.TrackKey.{TrackKey}
-use Rattle.alert_states.specs.declared.event.Net.TheVariants.{Stca, Msaw, Apw, Apm}
+use Rattle.site_types.specs.declared.net.Net.TheVariants.{Stca, Msaw, Apw, Apm}
 use Rattle.alert_states.specs.declared.event.Status.TheVariants.{First, Continuing, Ended}
 use Rattle.alert_states.specs.declared.event.HitData.{HitData}
 use Rattle.alert_states.specs.declared.event.Event.{Event}

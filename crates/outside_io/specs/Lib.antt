@@ -4,3 +4,4 @@ pub mod Faults
 pub mod Memory
 pub mod Names
 pub mod Opened
+pub mod Texts

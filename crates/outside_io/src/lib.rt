@@ -13,6 +13,7 @@ pub mod reader;
 pub mod sink;
 pub mod source;
 pub mod steps;
+pub mod text;
 pub mod world;
 pub mod writer;
 
@@ -22,6 +23,7 @@ pub use reader::ReaderSource;
 pub use sink::{Sink, Sinks, write_whole};
 pub use source::{Failed, Source};
 pub use steps::Steps;
+pub use text::{Unread, read_text};
 pub use world::{OpenFault, World};
 pub use writer::WriterSink;
 

@@ -5,15 +5,14 @@ use Rattle.std.proofs.lemmas.List.{append-nil}
 use Rattle.std.specs.Io.KnownBytes.{Appends}
 use Rattle.outside_io.specs.Bytes.{AppendsPrefix, AppendsWhole}
 use Rattle.outside_io.specs.Faults.{Rose}
-use Rattle.replay_cli.specs.Content.{feeds_are_intact}
+use Rattle.feed_reader.specs.Content.{feeds_are_intact}
 use Rattle.replay_cli.specs.Counts.{report_of}
-use Rattle.replay_cli.specs.Ends.{Ran, Ends, Finishes, Completes, Breaks, Halts, Refuses, IsAsked, StopsBy, found_by, status_done, status_of}
-use Rattle.replay_cli.specs.FaultTexts.{refusal_text, text_of_fault, write_failed_text}
+use Rattle.replay_cli.specs.Endings.{Ran, Ends, Finishes, Completes, Breaks, Halts, Refuses, IsAsked, StopsBy, found_by, status_of}
+use Rattle.replay_cli.specs.Statuses.{status_done, IsDone, IsDue, IsReport, IsRefusal, Judges, JudgesFeeds, MayWrite, Reports, ReportsWhole, Serves, Sunk, Takes, TellsUnread, stop_status}
+use Rattle.replay_cli.specs.FaultTexts.{cannot_open, read_failed, refusal_text, text_of_fault, write_failed_text}
 use Rattle.replay_cli.specs.Found.{Found, OtherWords, Untold, Lacking, Refused, Given, IfGiven, IsLacking}
-use Rattle.replay_cli.specs.Outcomes.{IsDone, IsDue, IsReport, IsRefusal, Judges, JudgesFeeds, MayWrite, Reports, Serves, Sunk}
-use Rattle.replay_cli.specs.Reference.{reference}
+use Rattle.feed_threads.specs.Reference.{reference}
 use Rattle.replay_cli.specs.ReportText.{text_of}
-use Rattle.replay_cli.specs.Stops.{stop_status}
 use Rattle.replay_cli.specs.declared.texts.FaultText.{FaultText}
 use Rattle.replay_cli.specs.declared.texts.Refusal.{Refusal}
 use Rattle.replay_cli.specs.declared.texts.FaultText.TheVariants as texts
@@ -336,3 +335,40 @@ told_of r (Err stopped) n report ends finishes = record {
   late = λ five. late_by r stopped report ends (sym finishes.0 ∙ five);
   taken = finishes.1;
 }
+
+-- ---- a name that wasn't opened or read
+
+told_unread_by : (r : Ran) (e : FaultText) (report : Sunk) → StopsBy e r → stop_status e ≡ 4 → Takes report.before report (text_of_fault e) → TellsUnread r.files r.words r.world.before r.world.after report
+told_unread_by r texts.Usage report stops is taken = absurd (cc)
+told_unread_by r (texts.Refused refusal) report stops is taken = absurd (cc)
+told_unread_by r (texts.CannotOpen name) report stops is taken = record { name = name; named = stops.1; text = cannot_open name; cause = inl (refl, stops.2); taken = taken }
+told_unread_by r (texts.ReadFailed name) report stops is taken = record { name = name; named = stops.1; text = read_failed name; cause = inr (refl, stops.2); taken = taken }
+told_unread_by r texts.WriteFailed report stops is taken = absurd (cc)
+told_unread_by r texts.NoMemory report stops is taken = absurd (cc)
+
+pub told_unread_of : (r : Ran) (e : Ending) (n : ℕ) (report : Sunk) → Ends r e → Finishes e n report → n ≡ 4 → TellsUnread r.files r.words r.world.before r.world.after report
+told_unread_of r (Ok work) n report ends (inl tells) four = absurd (done_isnt work.is_intact 4 (λ e. cc) (λ e. cc) (sym tells.status ∙ four))
+told_unread_of r (Ok work) n report ends (inr misses) four = (let five = misses.status in absurd (cc))
+told_unread_of r (Err stopped) n report ends finishes four = told_unread_by r stopped report ends (sym finishes.0 ∙ four) finishes.1
+
+-- ---- the report, whole and alone
+
+pub whole_of : (r : Ran) (e : Ending) (n : ℕ) (report : Sunk) → Ends r e → Finishes e n report → IsDone n → ReportsWhole (found_by r) report.before report.after
+whole_of r (Ok work) n report ends (inl tells) done = (work.report.items, report_done (found_by r) r.out work ends, tells.taken)
+whole_of r (Ok work) n report ends (inr misses) done = absurd (not_done_at 5 (λ e. cc) (λ e. cc) (rw misses.status at done))
+whole_of r (Err stopped) n report ends finishes done = absurd (stop_isnt_done stopped n finishes.0 done)
+
+-- ---- the text of a write that failed, alone
+
+alone_by : (e : FaultText) (report : Sunk) → stop_status e ≡ 5 → Takes report.before report (text_of_fault e) → (Rose report.faults_before report.faults_after → ⊥) → Appends report.before report.after write_failed_text
+alone_by texts.Usage report is taken unrisen = absurd (cc)
+alone_by (texts.Refused refusal) report is taken unrisen = absurd (cc)
+alone_by (texts.CannotOpen name) report is taken unrisen = absurd (cc)
+alone_by (texts.ReadFailed name) report is taken unrisen = absurd (cc)
+alone_by texts.WriteFailed report is taken unrisen = taken.whole unrisen
+alone_by texts.NoMemory report is taken unrisen = absurd (cc)
+
+pub alone_of : (e : Ending) (n : ℕ) (report : Sunk) → Finishes e n report → n ≡ 5 → (Rose report.faults_before report.faults_after → ⊥) → Appends report.before report.after write_failed_text
+alone_of (Ok work) n report (inl tells) five unrisen = absurd (done_isnt work.is_intact 5 (λ e. cc) (λ e. cc) (sym tells.status ∙ five))
+alone_of (Ok work) n report (inr misses) five unrisen = absurd (unrisen misses.rose)
+alone_of (Err stopped) n report finishes five unrisen = alone_by stopped report (sym finishes.0 ∙ five) finishes.1 unrisen

@@ -1,16 +1,6 @@
-pub mod Counts
 pub mod Ends
-pub mod Feeding
 pub mod Lines
 pub mod Lists
-pub mod Making
-pub mod PlainWords
 pub mod Read
-pub mod Sites
-pub mod Stamping
-pub mod TableLaws
 pub mod Told
 pub mod Under
-pub mod Unplanned
-pub mod Usable
-pub mod Windows

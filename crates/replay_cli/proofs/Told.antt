@@ -8,7 +8,7 @@ use Rattle.std.specs.Io.KnownBytes.{Appends}
 use Rattle.std.specs.List.{flat_map}
 use Rattle.outside_io.specs.Bytes.{AppendsPrefix, AppendsWhole}
 use Rattle.outside_io.specs.Faults.{HasCause}
-use Rattle.replay_cli.specs.Telling.{Tells}
+use Rattle.replay_cli.specs.Endings.{Tells}
 
 -- a prefix of a piece behind what stands before it is a prefix of the whole
 pub prefix-next : (a b c : Option (List ℕ)) (front piece rest : List ℕ) → Appends a b front → AppendsPrefix b c piece → AppendsPrefix a c (front ++ (piece ++ rest))

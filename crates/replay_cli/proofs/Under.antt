@@ -13,7 +13,7 @@ use Rattle.site_fields.specs.declared.fault.SiteFault.{SiteFault}
 use Rattle.site_fields.specs.declared.fault.SiteFault.TheVariants.{Long}
 use Rattle.site_fields.specs.declared.fault.SiteFault.TheVariants as refusals
 use Rattle.site_params.specs.declared.read.TheConstants.{SITE_ROOM}
-use Rattle.site_params.specs.declared.site.Site.{Site}
+use Rattle.site_types.specs.declared.site.Site.{Site}
 use Rattle.site_fields.specs.Kinds.{Reading}
 use Rattle.site_params.specs.Site.{site_of_text}
 use Rattle.terrain_file.specs.Terrain.{no_terrain, terrain_of}
@@ -21,19 +21,15 @@ use Rattle.terrain_file.specs.declared.fault.TerrainFault.{TerrainFault}
 use Rattle.terrain_file.specs.declared.fault.TerrainFault.TheVariants as terrains
 use Rattle.terrain_file.specs.declared.read.TheConstants.{TERRAIN_ROOM}
 use Rattle.terrain_file.specs.declared.terrain.Terrain.{Terrain}
-use Rattle.replay_cli.specs.Content.{Content, content}
+use Rattle.feed_reader.specs.Content.{Content, content}
 use Rattle.replay_cli.specs.Counts.{report_in}
-use Rattle.replay_cli.specs.Ends.{Breaks, Change, Completes, Ends, Halts, IsAsked, Refuses, StopsBy, change, ran, status_of}
-use Rattle.replay_cli.specs.Feeds.{ReadsEach, TextOf}
-use Rattle.replay_cli.specs.Found.{Found, OtherWords, Untold, Lacking, Refused, Given, IfGiven, IsNamed, found, found_feeds, found_ground, found_names, found_site, found_terrain, found_unless, request, IsLacking}
-use Rattle.replay_cli.specs.Outcomes.{CountsPairs, HasBegun, MayWrite, Sunk}
+use Rattle.replay_cli.specs.Endings.{Breaks, Change, Completes, Ends, Halts, IsAsked, Refuses, StopsBy, change, ran, status_of, RefusesSite, RefusesTerrain, StopsAmong, StopsAt, StopsSite, StopsTerrain, fault_of, site_fault, terrain_fault, IsWork}
+use Rattle.replay_cli.specs.Found.{ReadsEach, TextOf, Found, OtherWords, Untold, Lacking, Refused, Given, IfGiven, IsNamed, found, found_feeds, found_ground, found_names, found_site, found_terrain, found_unless, request, IsLacking, Files, first_lacking, read_of, terrain_read, IsGround, IsReading, IsTerrainReading}
+use Rattle.replay_cli.specs.Statuses.{CountsPairs, HasBegun, MayWrite, Sunk}
 use Rattle.replay_cli.specs.ReportText.{text_of}
-use Rattle.replay_cli.specs.Run.{Files, first_lacking, read_of, terrain_read}
-use Rattle.replay_cli.specs.Stops.{IsGround, IsReading, IsTerrainReading, RefusesSite, RefusesTerrain, StopsAmong, StopsAt, StopsSite, StopsTerrain, fault_of, site_fault, terrain_fault}
-use Rattle.replay_cli.specs.Reference.{alerts, examined, reference}
-use Rattle.replay_cli.specs.Works.{IsWork}
-use Rattle.replay_cli.specs.declared.input.Unread.{Unread}
-use Rattle.replay_cli.specs.declared.input.Unread.TheVariants as unreads
+use Rattle.feed_threads.specs.Reference.{alerts, examined, reference}
+use Rattle.outside_io.specs.declared.text.Unread.{Unread}
+use Rattle.outside_io.specs.declared.text.Unread.TheVariants as unreads
 use Rattle.replay_cli.specs.declared.request.Request.{Request}
 use Rattle.replay_cli.specs.declared.work.Work.{Work}
 use Rattle.replay_cli.specs.declared.texts.FaultText.{FaultText}

@@ -7,14 +7,11 @@ use Rattle.site_fields.specs.declared.fault.SiteFault.{SiteFault}
 use Rattle.site_fields.specs.declared.fault.SiteFault.TheVariants as fault
 use Rattle.terrain_file.specs.declared.fault.TerrainFault.{TerrainFault}
 use Rattle.terrain_file.specs.declared.fault.TerrainFault.TheVariants as terrain
+use Rattle.command_words.specs.Usage.{usage_text}
 use Rattle.replay_cli.specs.declared.texts.Refusal.{Refusal}
 use Rattle.replay_cli.specs.declared.texts.Refusal.TheVariants as of
 use Rattle.replay_cli.specs.declared.texts.FaultText.{FaultText}
 use Rattle.replay_cli.specs.declared.texts.FaultText.TheVariants as told
-
--- the usage text
-abbrev pub usage_text : List ℕ
-usage_text = codes "usage: safetynets replay --site FILE FEED...\n       safetynets run --site FILE --workers N FEED...\n"
 
 abbrev pub cannot_open : List ℕ → List ℕ
 cannot_open name = concat (codes "cannot open " ∷ name ∷ codes "\n" ∷ [])

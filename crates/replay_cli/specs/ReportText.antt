@@ -6,9 +6,9 @@ use Rattle.asterix_blocks.specs.declared.blocks.End.TheVariants.{Clean, Truncate
 use Rattle.asterix_fields.specs.declared.fault.ItemFault.{ItemFault}
 use Rattle.asterix_fields.specs.declared.fault.ItemFault.TheVariants.{LongFspec, PastEnd, SpareItem, SpareSubfield, ZeroLength}
 use Rattle.cat062_read.specs.declared.body.Refused.{Refused}
-use Rattle.replay_cli.specs.declared.report.counts.FeedCount.{FeedCount}
-use Rattle.replay_cli.specs.declared.report.counts.Report.{Report}
-use Rattle.replay_cli.specs.declared.report.counts.TheConstants.{MOST_REFUSALS}
+use Rattle.feed_reader.specs.declared.counts.FeedCount.{FeedCount}
+use Rattle.feed_reader.specs.declared.counts.Report.{Report}
+use Rattle.feed_reader.specs.declared.counts.TheConstants.{MOST_REFUSALS}
 
 -- how a feed ends
 abbrev pub end_text : End → List ℕ

@@ -1,11 +1,6 @@
 //! The program as one function over words, a world and sinks.
 #![tactic(auto)]
 
-mod content;
-mod cursor;
-mod cycles;
-mod input;
-pub mod laws;
 mod named;
 pub mod report;
 mod request;
@@ -14,10 +9,8 @@ mod top;
 pub mod words;
 mod work;
 
-pub use report::{FeedCount, FeedCounts, Refusals, Report, report_text};
-pub use texts::{FaultText, Refusal, USAGE, tell};
-pub use top::replay_top;
-pub use words::{Plan, WordsFault, read_words};
-
-#[cfg(test)]
-mod tests;
+pub use command_words::{Plan, USAGE, WordsFault, laws, read_words};
+pub use feed_reader::{FeedCount, FeedCounts, Refusals, Report};
+pub use report::report_text;
+pub use texts::{FaultText, Refusal, tell};
+pub use top::{replay_top, without_words};

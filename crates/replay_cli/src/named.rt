@@ -3,56 +3,21 @@
 ghost use Rattle.std.specs.Prelude.{◌≡◌, ◌≤◌, ◌⊎◌, false, length, Err, IfErr, IfOk, IsErrOf, Ok, Some};
 ghost use Rattle.outside_io.specs.Faults.{Rose};
 ghost use Rattle.outside_io.specs.Names.{Lacks};
-ghost use Rattle.site_params.specs.Ranges.{IsSite};
-ghost use Rattle.replay_cli.specs.Feeds.{AreTellable, IsTellable, ReadsEach, ReadsNamed, TextOf};
-ghost use Rattle.replay_cli.specs.Stops.{IsGround, IsReading, IsTerrainReading, StopsAmong, StopsSite, StopsTerrain, fault_of, leaves_unread as unread, site_fault, terrain_fault};
+ghost use Rattle.site_types.specs.Ranges.{IsSite};
+ghost use Rattle.feed_reader.specs.Feeds.{AreTellable, IsTellable};
+ghost use Rattle.replay_cli.specs.Found.{ReadsEach, ReadsNamed, TextOf, IsGround, IsReading, IsTerrainReading};
+ghost use Rattle.replay_cli.specs.Endings.{StopsAmong, StopsSite, StopsTerrain, leaves_unread as unread};
 ghost use Rattle.terrain_file.specs.Ranges.{IsTerrain};
 
-use crate::content::Input;
-use crate::input::{Unread, read_text, read_whole};
-use crate::texts::{FaultText, Refusal};
-use crate::words::{Name, Names};
-use outside_io::{OpenFault, World};
-use site_params::{SITE_ROOM, Site, SiteFault, read_site};
-use std::alloc::{AllocFailed, Global};
-use terrain_file::{TERRAIN_ROOM, Terrain, TerrainFault, read_terrain};
-
-impl From<OpenFault> for Unread {
-    ghost use Rattle.replay_cli.specs.Stops.{GivesUnread};
-
-    ghost from_gives = { GivesUnread };
-
-    fn from(fault: OpenFault) -> Self {
-        match fault {
-            OpenFault::NoSuch | OpenFault::Failed => Unread::Unopened,
-            OpenFault::NoMemory => Unread::NoMemory,
-        }
-    }
-}
-
-impl Unread {
-    /// The fault of a run that read nothing of this name.
-    fn of(self, name: Name) -> FaultText
-        ensures { result ≡ fault_of self name }
-    {
-        match self {
-            Unread::Unopened => FaultText::CannotOpen(name),
-            Unread::Broken => FaultText::ReadFailed(name),
-            Unread::NoMemory => FaultText::NoMemory,
-        }
-    }
-}
-
-impl From<AllocFailed<Input>> for FaultText {
-    ghost use Rattle.std.specs.Prelude.{◌≡◌};
-    ghost use Rattle.replay_cli.specs.declared.texts.FaultText.TheVariants.{NoMemory};
-
-    ghost from_gives = { λ _ e. e ≡ NoMemory };
-
-    fn from(_: AllocFailed<Input>) -> Self {
-        FaultText::NoMemory
-    }
-}
+use crate::texts::FaultText;
+use crate::texts::causes::{refused, refused_terrain, unread_of};
+use command_words::{Name, Names};
+use feed_reader::{Input, read_whole};
+use outside_io::{Unread, World, read_text};
+use site_params::{SITE_ROOM, read_site};
+use site_types::Site;
+use std::alloc::Global;
+use terrain_file::{TERRAIN_ROOM, Terrain, read_terrain};
 
 /// The text under a name, and at most so many octets of it.
 fn text_under<W: World>(
@@ -98,26 +63,6 @@ pub fn feed_under<W: World>(alloc: Global, world: &mut W, name: &str) -> Result<
     input
 }
 
-/// The fault of a run whose site is refused.
-fn refused(fault: SiteFault) -> FaultText
-    ensures { result ≡ site_fault fault }
-{
-    match fault {
-        SiteFault::NoMemory => FaultText::NoMemory,
-        fault => FaultText::Refused(Refusal::Site(fault)),
-    }
-}
-
-/// The fault of a run whose terrain is refused.
-fn refused_terrain(fault: TerrainFault) -> FaultText
-    ensures { result ≡ terrain_fault fault }
-{
-    match fault {
-        TerrainFault::NoMemory => FaultText::NoMemory,
-        fault => FaultText::Refused(Refusal::Terrain(fault)),
-    }
-}
-
 /// The site that the file under a name sets.
 pub fn site_of<W: World>(alloc: Global, world: &mut W, name: Name) -> Result<Site, FaultText>
     ensures site { IfOk result (λ site. IsReading (W.files world.old) name (Ok site)) }
@@ -132,7 +77,7 @@ pub fn site_of<W: World>(alloc: Global, world: &mut W, name: Name) -> Result<Sit
 {
     let text = match text_under(alloc, world, name.as_str(), SITE_ROOM + 1) {
         Ok(text) => text,
-        Err(unread) => return Err(unread.of(name)),
+        Err(unread) => return Err(unread_of(unread, name)),
     };
     match read_site(alloc, &text) {
         Ok(site) => Ok(site),
@@ -154,7 +99,7 @@ fn terrain_under<W: World>(alloc: Global, world: &mut W, name: Name) -> Result<T
 {
     let bytes = match text_under(alloc, world, name.as_str(), TERRAIN_ROOM + 1) {
         Ok(bytes) => bytes,
-        Err(unread) => return Err(unread.of(name)),
+        Err(unread) => return Err(unread_of(unread, name)),
     };
     match read_terrain(alloc, &bytes) {
         Ok(terrain) => Ok(terrain),
@@ -205,7 +150,7 @@ pub fn feeds_of<W: World>(
     for i in 0..names.len() {
         match feed_under(alloc, world, &names[i]) {
             Ok(input) => inputs.push(input)?,
-            Err(unread) => return Err(unread.of(Name::new(names.swap_remove(i)))),
+            Err(unread) => return Err(unread_of(unread, Name::new(names.swap_remove(i)))),
         }
     }
     Ok(inputs)

@@ -2,11 +2,10 @@
 ghost use Rattle.std.specs.Prelude.{◌≡◌, IfOk};
 ghost use Rattle.replay_cli.specs.ReportText.{text_of};
 
-mod counts;
 mod lines;
 
 use crate::report::lines::{put_feeds, put_number};
-pub use counts::{FeedCount, FeedCounts, MOST_REFUSALS, Refusals, Report};
+pub use feed_reader::{FeedCount, FeedCounts, MOST_REFUSALS, Refusals, Report};
 use outside_io::NoMemory;
 use std::alloc::Global;
 

@@ -1,11 +1,12 @@
 //! What the command words ask to be replayed.
 ghost use Rattle.std.specs.Prelude.{◌≡◌, ◌⊎◌, ◌≤◌, None, Some, IfErr, IfOk, length};
 ghost use Rattle.replay_cli.specs.Found.{request as requested};
-ghost use Rattle.replay_cli.specs.Words.{texts};
-ghost use Rattle.replay_cli.specs.declared.words.plan.TheConstants.{MOST_FEEDS};
+ghost use Rattle.command_words.specs.Words.{texts};
+ghost use Rattle.command_words.specs.declared.plan.TheConstants.{MOST_FEEDS};
 
 use crate::texts::FaultText;
-use crate::words::{Name, Names, Plan, WordsFault, read_words};
+use command_words::laws::plans_have_few_feeds;
+use command_words::{Name, Names, Plan, WordsFault, read_words};
 use std::alloc::Global;
 
 /// The names of a site file and of feeds.
@@ -22,6 +23,8 @@ pub fn asked(alloc: Global, words: &[String]) -> Result<Request, FaultText>
     ensures few { IfOk result (λ r. length r.feeds ≤ MOST_FEEDS) }
     ensures fault { IfErr result (λ e. (e ≡ FaultText.NoMemory) ⊎ ((e ≡ FaultText.Usage) × (requested (texts words.now) ≡ None))) }
 {
+    // The proof takes this law; the call does nothing.
+    plans_have_few_feeds();
     match read_words(alloc, words) {
         Ok(Plan::Replay { site, feeds }) => Ok(Request { site, feeds }),
         Ok(Plan::Run { .. }) | Err(WordsFault::Usage | WordsFault::Feeds(_)) => {

@@ -5,20 +5,18 @@ ghost use Rattle.std.specs.Prelude.{◌∷◌, [], codes};
 ghost use Rattle.std.specs.List.{concat};
 ghost use Rattle.replay_cli.specs.FaultTexts.{at_field, refusal_text, refused, site_text, terrain_refused, terrain_text, text_of_fault};
 ghost use Rattle.replay_cli.specs.Pieces.{piece_text};
-ghost use Rattle.replay_cli.specs.Telling.{Tells};
+ghost use Rattle.replay_cli.specs.Endings.{Tells};
 
+pub(crate) mod causes;
 mod pieces;
 
 use crate::texts::pieces::{Piece, tell_pieces};
-use crate::words::Name;
+use command_words::Name;
+pub use command_words::USAGE;
 use outside_io::source::Failed;
 use outside_io::{Sink, write_whole};
 use site_params::{Field, SiteFault};
 use terrain_file::TerrainFault;
-
-/// What words without a plan are answered with.
-pub const USAGE: &str =
-    "usage: safetynets replay --site FILE FEED...\n       safetynets run --site FILE --workers N FEED...\n";
 
 /// Why a file that was read is refused.
 #[derive(Clone, Copy, Debug, PartialEq, Eq)]

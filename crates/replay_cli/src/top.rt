@@ -1,13 +1,13 @@
 //! The program as one function over words, a world and sinks.
-ghost use Rattle.std.specs.Prelude.{◌≡◌, ◌≢◌, ◌≤◌, ◌⊎◌, OnOk};
+ghost use Rattle.std.specs.Prelude.{◌≡◌, ◌≢◌, ◌≤◌, ◌⊎◌, OnOk, false, true};
+ghost use Rattle.std.specs.Io.KnownBytes.{Appends};
 ghost use Rattle.outside_io.specs.Faults.{Rose};
 ghost use Rattle.replay_cli.specs.Found.{found, IfGiven, IsLacking};
-ghost use Rattle.replay_cli.specs.Outcomes.{CountsPairs, Judges, MayWrite, Reports, Serves, sunk, IsDone};
-ghost use Rattle.replay_cli.specs.Ends.{Ends, Finishes, change, ran, status_done, status_of};
-ghost use Rattle.replay_cli.specs.FaultTexts.{text_of_fault};
-ghost use Rattle.replay_cli.specs.Stops.{stop_status as status_stopped};
-ghost use Rattle.replay_cli.specs.Telling.{Tells};
-ghost use Rattle.replay_cli.specs.Words.{texts};
+ghost use Rattle.replay_cli.specs.Statuses.{CountsPairs, IsDone, Judges, MayWrite, Reports, ReportsWhole, Serves, TellsUnread, status_done, stop_status as status_stopped, sunk};
+ghost use Rattle.replay_cli.specs.Endings.{Ends, Finishes, change, ran, status_of, Tells};
+ghost use Rattle.replay_cli.specs.FaultTexts.{out_of_memory_text, text_of_fault, write_failed_text};
+ghost use Rattle.command_words.specs.Usage.{usage_text};
+ghost use Rattle.command_words.specs.Words.{texts};
 
 use crate::named::{feeds_of, site_of, terrain_of};
 use crate::request::{Request, asked};
@@ -76,6 +76,23 @@ fn stop<K: Sink>(stopped: &FaultText, report: &mut K) -> u8
     stop_status(stopped)
 }
 
+/// Tells why there are no words, and answers the exit status: 6 where that is want of memory, and else 2.
+pub fn without_words<K: Sink>(is_wanting: bool, report: &mut K) -> u8
+    ensures wanting { is_wanting ≡ true → result ≡ 6 }
+    ensures other { is_wanting ≡ false → result ≡ 2 }
+    ensures statuses { (result ≡ 2) ⊎ (result ≡ 6) }
+
+    // What `report` took.
+    ensures memory { is_wanting ≡ true → Tells (K.taken report.old) (K.taken report.new) (K.faults report.old) (K.faults report.new) out_of_memory_text }
+    ensures usage { is_wanting ≡ false → Tells (K.taken report.old) (K.taken report.new) (K.faults report.old) (K.faults report.new) usage_text }
+{
+    if is_wanting {
+        stop(&FaultText::NoMemory, report)
+    } else {
+        stop(&FaultText::Usage, report)
+    }
+}
+
 /// Writes what is due on `report`, and answers the exit status.
 fn finish<K: Sink>(ending: Result<Work, FaultText>, report: &mut K) -> u8
     ensures finished { Finishes ending result (sunk (K.taken report.old) (K.taken report.new) (K.faults report.old) (K.faults report.new)) }
@@ -122,6 +139,10 @@ pub fn replay_top<W: World, K: Sink, L: Ledger>(
     // What `report` took.
     ensures told { Reports (W.files world.old) (texts words.now) result
         (sunk (K.taken sinks.old.report) (K.taken sinks.new.report) (K.faults sinks.old.report) (K.faults sinks.new.report)) }
+    ensures whole { IsDone result → ReportsWhole (found (W.files world.old) (texts words.now)) (K.taken sinks.old.report) (K.taken sinks.new.report) }
+    ensures unopened { result ≡ 4 → TellsUnread (W.files world.old) (texts words.now) (W.faults world.old) (W.faults world.new)
+        (sunk (K.taken sinks.old.report) (K.taken sinks.new.report) (K.faults sinks.old.report) (K.faults sinks.new.report)) }
+    ensures alone { result ≡ 5 → (Rose (K.faults sinks.old.report) (K.faults sinks.new.report) → ⊥) → Appends (K.taken sinks.old.report) (K.taken sinks.new.report) write_failed_text }
 
     // No fault is passed over.
     ensures unfailed { result ≢ 4 → W.faults world.new ≡ W.faults world.old }

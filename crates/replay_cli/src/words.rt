@@ -1,28 +1,3 @@
 //! The command words, and the plan that they give.
-ghost use Rattle.std.specs.Prelude.{◌≡◌, ◌≢◌, IfErr, IfOk, Ok, Err};
-ghost use Rattle.replay_cli.specs.Words.{texts};
-ghost use Rattle.replay_cli.specs.Plans.{plan_of};
 
-mod command;
-mod plan;
-mod values;
-
-use crate::words::command::safetynets;
-use crate::words::values::plan_found;
-use clap::error::ErrorKind;
-pub use command::MOST_WORKERS;
-pub use plan::{MOST_FEEDS, Name, Names, Plan, WordsFault};
-use std::alloc::Global;
-
-/// The plan of the words after the program's name.
-pub fn read_words(alloc: Global, words: &[String]) -> Result<Plan, WordsFault>
-    ensures plan { IfOk result (λ plan. plan_of (texts words.now) ≡ Ok plan) }
-    ensures fault { IfErr result (λ e. e ≢ WordsFault.NoMemory → plan_of (texts words.now) ≡ Err e) }
-{
-    let command = safetynets(alloc)?;
-    match command.try_get_matches_from(words) {
-        Ok(found) => plan_found(alloc, &found),
-        Err(error) if error.kind() == ErrorKind::OutOfMemory => Err(WordsFault::NoMemory),
-        Err(_) => Err(WordsFault::Usage),
-    }
-}
+pub use command_words::{MOST_FEEDS, MOST_WORKERS, Name, Names, Plan, WordsFault, read_words};

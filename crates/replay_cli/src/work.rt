@@ -4,23 +4,23 @@ ghost use Rattle.std.specs.Io.KnownBytes.{Appends};
 ghost use Rattle.outside_io.specs.Bytes.{AppendsPrefix};
 ghost use Rattle.outside_io.specs.Faults.{Rose};
 ghost use Rattle.cycle_workers.specs.Settings.{setting};
-ghost use Rattle.site_params.specs.Ranges.{IsSite};
+ghost use Rattle.site_types.specs.Ranges.{IsSite};
 ghost use Rattle.terrain_file.specs.Ranges.{IsTerrain};
-ghost use Rattle.replay_cli.specs.Content.{are_intact as intact};
-ghost use Rattle.replay_cli.specs.Counts.{feed_count, report_by};
-ghost use Rattle.replay_cli.specs.Feeds.{AreTellable};
-ghost use Rattle.replay_cli.specs.Reference.{alerts, examined};
-ghost use Rattle.replay_cli.specs.Works.{IsWork};
-ghost use Rattle.replay_cli.specs.declared.words.plan.TheConstants.{MOST_FEEDS};
+ghost use Rattle.feed_reader.specs.Content.{are_intact as intact};
+ghost use Rattle.feed_reader.specs.Counts.{feed_count};
+ghost use Rattle.replay_cli.specs.Counts.{report_by};
+ghost use Rattle.feed_reader.specs.Feeds.{AreTellable};
+ghost use Rattle.feed_threads.specs.Reference.{alerts, examined};
+ghost use Rattle.replay_cli.specs.Endings.{IsWork};
+ghost use Rattle.command_words.specs.declared.plan.TheConstants.{MOST_FEEDS};
 
-use crate::content::Input;
-use crate::cycles::{Made, make_cycles};
-use crate::report::{FeedCount, FeedCounts, Report, report_text};
+use crate::report::report_text;
 use crate::texts::FaultText;
-use cycle_engine::CycleFault;
+use feed_reader::{FeedCount, FeedCounts, Input, Report};
+use feed_threads::{Made, make_cycles};
 use outside_io::{Sink, Steps};
-use site_params::Site;
-use std::alloc::{AllocError, AllocFailed, Global};
+use site_types::Site;
+use std::alloc::Global;
 use std::sync::ledger::Ledger;
 use terrain_file::Terrain;
 
@@ -29,41 +29,6 @@ use terrain_file::Terrain;
 pub struct Work {
     pub report: Vec<u8>,
     pub is_intact: bool,
-}
-
-impl From<AllocError> for FaultText {
-    ghost use Rattle.std.specs.Prelude.{◌≡◌};
-    ghost use Rattle.replay_cli.specs.declared.texts.FaultText.TheVariants.{NoMemory};
-
-    ghost from_gives = { λ _ e. e ≡ NoMemory };
-
-    fn from(_: AllocError) -> Self {
-        FaultText::NoMemory
-    }
-}
-
-impl From<AllocFailed<FeedCount>> for FaultText {
-    ghost use Rattle.std.specs.Prelude.{◌≡◌};
-    ghost use Rattle.replay_cli.specs.declared.texts.FaultText.TheVariants.{NoMemory};
-
-    ghost from_gives = { λ _ e. e ≡ NoMemory };
-
-    fn from(_: AllocFailed<FeedCount>) -> Self {
-        FaultText::NoMemory
-    }
-}
-
-impl From<CycleFault> for FaultText {
-    ghost use Rattle.replay_cli.specs.Works.{GivesFault};
-
-    ghost from_gives = { GivesFault };
-
-    fn from(fault: CycleFault) -> Self {
-        match fault {
-            CycleFault::NoMemory => FaultText::NoMemory,
-            CycleFault::WriteFault => FaultText::WriteFailed,
-        }
-    }
 }
 
 /// What was read of each feed.

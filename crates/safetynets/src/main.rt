@@ -4,19 +4,13 @@
 ghost use Rattle.std.specs.Prelude.{◌≡◌, ◌<◌};
 ghost use Rattle.std.specs.IoError.{error_kind};
 
-use outside_io::{FileSink, FileWorld, Sinks, Steps, is_want_of_memory};
-use replay_cli::replay_top;
+use outside_io::{FileSink, FileWorld, Sink, Sinks, Steps, is_want_of_memory};
+use replay_cli::{replay_top, without_words};
 use std::io::ErrorKind;
 use std::marker::Brand;
 use std::process::ExitCode;
 use std::sync::ledger::{Blank, Ledger};
 use std::{env, io};
-
-/// The exit status of words that the system doesn't give as text.
-const OTHER_WORDS: u8 = 2;
-
-/// The exit status where the system is short of memory while the words are taken.
-const WANT_OF_MEMORY: u8 = 6;
 
 fn main(rt: HostRuntime) -> ExitCode {
     ExitCode::from(program::<Brand>(rt, Blank::new(1)))
@@ -31,16 +25,12 @@ fn words(rt: &HostRuntime) -> io::Result<Vec<String>> {
     Ok(words)
 }
 
-/// The exit status where the words couldn't be taken.
-fn status_without_words(error: &io::Error) -> u8
-    ensures wanting { error_kind error.now ≡ ErrorKind.OutOfMemory → result ≡ WANT_OF_MEMORY }
-    ensures other { (error_kind error.now ≡ ErrorKind.OutOfMemory → ⊥) → result ≡ OTHER_WORDS }
+/// Tells why the words couldn't be taken, and answers the exit status.
+fn stop_without_words<K: Sink>(error: &io::Error, report: &mut K) -> u8
+    ensures wanting { error_kind error.now ≡ ErrorKind.OutOfMemory → result ≡ 6 }
+    ensures other { (error_kind error.now ≡ ErrorKind.OutOfMemory → ⊥) → result ≡ 2 }
 {
-    if is_want_of_memory(error) {
-        WANT_OF_MEMORY
-    } else {
-        OTHER_WORDS
-    }
+    without_words(is_want_of_memory(error), report)
 }
 
 /// Runs the top call and answers the exit status.
@@ -50,13 +40,13 @@ fn program<L: Ledger>(rt: HostRuntime, blank: Blank) -> u8
     requires some { 0 < blank.parts }
 {
     let mut steps = Steps::<L>::new(blank);
-    let words = match words(&rt) {
-        Ok(words) => words,
-        Err(error) => return status_without_words(&error),
-    };
     let mut sinks = Sinks {
         out: FileSink::output(&rt),
         report: FileSink::error(&rt),
+    };
+    let words = match words(&rt) {
+        Ok(words) => words,
+        Err(error) => return stop_without_words(&error, &mut sinks.report),
     };
     let alloc = rt.alloc();
     let mut world = FileWorld::new(rt);

@@ -6,7 +6,8 @@ mod bases;
 mod rows;
 
 use rows::{Row, row_of};
-use site_params::{Site, read_site};
+use site_params::read_site;
+use site_types::Site;
 use std::alloc::{AllocError, Global};
 use std::io::{self, BufRead, BufReader};
 

@@ -3,6 +3,7 @@ pub mod Feeds
 mod Filters
 mod Freezes
 mod Highest
+mod HowMany
 mod KeyOrder
 mod Newest
 mod Orders

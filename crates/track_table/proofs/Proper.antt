@@ -35,8 +35,8 @@ moves start period timeout k records some short told r row =
     record {
       later = told_before r.at (cycle_time start period r.window) (cycle_time start period k) is.time (ends_rise start period r.window k some row.told);
       recent = younger (cycle_time start period k -ℤ r.at) timeout (pos LONGEST_AGE) row.recent short;
-      place = is.place;
-      level = is.level;
+      place = is.seen.place;
+      level = is.seen.level;
     }
 
 pub proper : (start period timeout : ℤ) (k : ℕ) (records : List Stamped) → pos 0 ≤ℤ period → timeout ≤ℤ pos LONGEST_AGE → All (IsTold start period) records → IsProper (frozen_of start period timeout k records)

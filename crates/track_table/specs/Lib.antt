@@ -1,3 +1,4 @@
+pub mod Cycles
 pub mod Held
 pub mod Kept
 pub mod KeyOrder

@@ -2,6 +2,7 @@
 #![tactic(auto)]
 
 mod clock;
+pub mod cycles;
 mod latest;
 pub mod laws;
 mod order;

@@ -4,10 +4,11 @@ ghost use Rattle.std.specs.String.{string_bytes};
 ghost use Rattle.std.specs.List.{flat_map};
 ghost use Rattle.replay_cli.specs.ReportText as text_of;
 
-use crate::report::counts::{FeedCount, printed};
 use asterix_blocks::End;
 use asterix_fields::ItemFault;
 use cat062_read::Refused;
+use feed_reader::FeedCount;
+use feed_reader::counts::printed;
 use outside_io::NoMemory;
 
 /// The line of a number.

@@ -1,9 +1,7 @@
 //! Fields of small documents, each answer worked out by hand.
 
-use site_fields::{
-    Field, Limits, ListLimits, Names, PairLimits, Place, ReadEntry, SiteFault, entries_of,
-    integers_of, numbers_of,
-};
+use site_fields::{Field, Names, Place, ReadEntry, SiteFault, entries_of, integers_of, numbers_of};
+use site_types::{Limits, ListLimits, PairLimits};
 use std::alloc::Global;
 use std::process::Abort;
 use std::test::Fail;

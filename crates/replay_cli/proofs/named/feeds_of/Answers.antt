@@ -2,7 +2,8 @@ use Rattle.std.proofs.Common.{◌≡◌, ◌∙◌, ◌<◌, ◌≤◌, [], ℕ,
 use Rattle.std.proofs.lemmas.List.{get_or_default}
 use Rattle.std.proofs.lemmas.List.Elements.{All-push}
 use Rattle.std.specs.String.{string_bytes}
-use Rattle.replay_cli.specs.Feeds.{IsTellable, ReadsNamed}
+use Rattle.feed_reader.specs.Feeds.{IsTellable}
+use Rattle.replay_cli.specs.Found.{ReadsNamed}
 use Rattle.replay_cli.specs.declared.texts.Refusal.{Refusal}
 use Rattle.replay_cli.proofs.Read.{all_read, one_more_read}
 use Rattle.replay_cli.proofs.Under.{as_many, memory_among, name_at, stops_unread}
@@ -32,7 +33,7 @@ returns-in-Err-clause-fault g c =
     let failed = rw c.loop-i.invariant.kept at c.in-Err.ensures.failed in (
       name,
       (c.loop-i.i, within, sym here),
-      rw (c.of.ensures, same) (stops_unread (λ (cause : Refusal). ⊥) (g.W.World.files c.args.world.now) (g.W.World.faults c.args.world.now) (g.W.World.faults c.feed_under.new.world) name c.in-Err.unread opened failed),
+      rw (c.unread_of.ensures, same) (stops_unread (λ (cause : Refusal). ⊥) (g.W.World.files c.args.world.now) (g.W.World.faults c.args.world.now) (g.W.World.faults c.feed_under.new.world) name c.in-Err.unread opened failed),
     )
 
 pub loop-i-preserved : goal.loop-i-preserved

@@ -1,7 +1,8 @@
 -- the feeds under the names so far were read
 use Rattle.std.proofs.Common.{◌≡◌, length, map, take}
 use Rattle.std.specs.String.{string_bytes}
-use Rattle.replay_cli.specs.Feeds.{AreTellable, ReadsEach}
+use Rattle.feed_reader.specs.Feeds.{AreTellable}
+use Rattle.replay_cli.specs.Found.{ReadsEach}
 use Rattle.replay_cli.proofs.named.feeds_of.Given as goal
 
 abbrev pub invariant-loop-i : goal.invariant-loop-i

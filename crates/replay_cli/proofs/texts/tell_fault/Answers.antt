@@ -1,6 +1,7 @@
 use Rattle.std.proofs.Common.{◌≡◌, ◌∙◌, ℕ, List, ap, sym, subst}
 use Rattle.outside_io.specs.Bytes.{AppendsWhole}
-use Rattle.replay_cli.specs.FaultTexts.{text_of_fault, usage_text}
+use Rattle.replay_cli.specs.FaultTexts.{text_of_fault}
+use Rattle.command_words.specs.Usage.{usage_text}
 use Rattle.replay_cli.proofs.texts.tell_fault.Goals as goal
 
 pub returns-in-Usage-clause-bytes : goal.returns-in-Usage-clause-bytes

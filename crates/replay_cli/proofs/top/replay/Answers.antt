@@ -1,10 +1,9 @@
 use Rattle.std.proofs.Common.{◌≡◌, Ok, Some, refl, rules}
 use Rattle.cycle_workers.specs.Settings.{Setting, setting}
-use Rattle.replay_cli.specs.Ends.{change}
-use Rattle.replay_cli.specs.Found.{request}
-use Rattle.replay_cli.specs.Outcomes.{sunk}
-use Rattle.replay_cli.specs.Stops.{IsReading, StopsAmong, StopsTerrain}
-use Rattle.replay_cli.specs.Words.{texts}
+use Rattle.replay_cli.specs.Endings.{change, StopsAmong, StopsTerrain}
+use Rattle.replay_cli.specs.Found.{request, IsReading}
+use Rattle.replay_cli.specs.Statuses.{sunk}
+use Rattle.command_words.specs.Words.{texts}
 use Rattle.replay_cli.specs.declared.request.Request.{Request}
 use Rattle.replay_cli.proofs.Under.{AreRead, IsSettled, counts_pairs, ends_at_work, may_write, has_begun, stops_at_feeds, stops_at_site, stops_at_terrain, stops_later_among, stops_later_terrain}
 use Rattle.replay_cli.proofs.top.replay.Goals as goal

@@ -1,6 +1,6 @@
 -- the feeds so far were counted
 use Rattle.std.proofs.Common.{◌≡◌, map, take}
-use Rattle.replay_cli.specs.Counts.{feed_count}
+use Rattle.feed_reader.specs.Counts.{feed_count}
 use Rattle.replay_cli.proofs.work.counts_of.Given as goal
 
 abbrev pub invariant-loop-input : goal.invariant-loop-input

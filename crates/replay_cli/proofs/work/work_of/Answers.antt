@@ -1,7 +1,7 @@
 use Rattle.std.proofs.Common.{◌∙◌, ap, ap₂, rules}
 use Rattle.cycle_workers.specs.Settings.{setting}
 use Rattle.replay_cli.specs.Counts.{report_by}
-use Rattle.replay_cli.specs.Reference.{alerts}
+use Rattle.feed_threads.specs.Reference.{alerts}
 use Rattle.replay_cli.specs.ReportText.{text_of}
 use Rattle.replay_cli.proofs.Ends.{whole_is_prefix}
 use Rattle.replay_cli.proofs.work.work_of.Goals as goal

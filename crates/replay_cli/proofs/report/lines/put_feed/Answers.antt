@@ -4,7 +4,7 @@ use Rattle.std.specs.String.{string_bytes}
 use Rattle.std.proofs.lemmas.Result.{IfOk-weaker}
 use Rattle.cat062_read.specs.declared.body.Refused.{Refused}
 use Rattle.replay_cli.specs.ReportText.{feed_line, more_line, printed, refusal_line}
-use Rattle.replay_cli.specs.declared.report.counts.TheConstants.{MOST_REFUSALS}
+use Rattle.feed_reader.specs.declared.counts.TheConstants.{MOST_REFUSALS}
 use Rattle.replay_cli.proofs.Lines.{three-parts}
 use Rattle.replay_cli.proofs.report.lines.put_feed.Goals as goal
 

@@ -1,0 +1,5 @@
+pub mod Counts
+pub mod Cursors
+pub mod Cycling
+pub mod Reference
+pub mod Rows

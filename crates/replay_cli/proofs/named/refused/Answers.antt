@@ -1,5 +1,0 @@
-use Rattle.replay_cli.proofs.Under.{site_fault_is}
-use Rattle.replay_cli.proofs.named.refused.Goals as goal
-
-pub returns-in_default : goal.returns-in_default
-returns-in_default c = site_fault_is c.args.fault c.in_default.not-NoMemory
