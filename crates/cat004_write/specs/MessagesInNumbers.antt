@@ -62,6 +62,6 @@ pub record AreMessagesInNumbers : Type 0 where
   pub apw : message inside 11059456 25 100
       ≡ 221 ∷ 145 ∷ 2 ∷ 25 ∷ 100 ∷ 5 ∷ 0 ∷ 1 ∷ 0 ∷ 0 ∷ 0 ∷ 2 ∷ 1 ∷ 1 ∷ 128 ∷ 0 ∷ 0 ∷ 0 ∷ 7 ∷ 5 ∷ 25 ∷ 10 ∷ 0 ∷ 1 ∷ 1 ∷ []
 
--- the figures that three octets are written of are below 2^24
+-- the figures that are written in three octets fit them up to 16,777,215
 abbrev pub HasLastFigures : Type 0
 HasLastFigures = (hit : HitData) → hit.first ≤ 16777215 → hit.closest ≤ 16777215 → hit.chs ≤ 16777215 → FitsOctets hit

@@ -1,5 +1,4 @@
--- The items of category 062 by FRN and the subfields of its compound ones, in plain numerals and in the standard's order (ASTERIX part 9;
--- that subfield 8 of 380 has one octet is this project's profile).
+-- The items of category 062 by FRN and the subfields of its compound ones, in plain numerals and in the standard's order (ASTERIX part 9; that subfield 8 of 380 has one octet is this project's profile).
 use Rattle.std.specs.Prelude.{List, [], ◌∷◌, ◌++◌, map}
 use Rattle.asterix_fields.specs.declared.tables.Form.{Form}
 use Rattle.asterix_fields.specs.declared.tables.Form.TheVariants.{Spare, Fixed, Extended, Explicit, Repeat, Compound}
