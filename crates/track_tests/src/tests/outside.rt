@@ -318,16 +318,16 @@ fn names_that_cannot_be_opened(rt: HostRuntime) -> Result<(), Fail> {
         "fe\0ed",
         "feed\0",
     ];
-    let mut faults = 0;
     for name in names {
-        faults += 1;
+        let before = world.faults;
         assert_eq!(rt;
             world.open(alloc, name).err(),
             Some(OpenFault::Failed),
             "{name:?}"
         );
-        assert_eq!(rt; (world.opened, world.faults), (0, faults), "{name:?}");
+        assert_eq!(rt; world.faults, before.saturating_add(1), "{name:?}");
     }
+    assert_eq!(rt; (world.opened, world.faults), (0, 10));
     Ok(())
 }
 
