@@ -304,19 +304,19 @@ fn names_are_taken_as_they_stand(rt: HostRuntime) -> Result<(), Fail> {
 #[test]
 fn names_that_cannot_be_opened(rt: HostRuntime) -> Result<(), Fail> {
     let alloc = rt.alloc();
-    fs::write(&rt, "feed", b"abc")?;
+    fs::write(&rt, "lone", b"abc")?;
     let mut world = FileWorld::new(rt);
     let names = [
         "",
         "nowhere",
         "nowhere",
-        "feed ",
-        " feed",
-        "feed/",
-        "feed/feed",
-        "nowhere/feed",
+        "lone ",
+        " lone",
+        "lone/",
+        "lone/lone",
+        "nowhere/lone",
         "fe\0ed",
-        "feed\0",
+        "lone\0",
     ];
     for name in names {
         let before = world.faults;
