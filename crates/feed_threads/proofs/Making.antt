@@ -150,10 +150,10 @@ pub record IsTaken (site : Site) (inputs : List Content) (k : ℕ) (frozen : Fro
   pub is : frozen ≡ frozen_of site.start site.period site.timeout k (stamps site inputs)
   pub table : engines.IsTableOf site k frozen
 
-pub is_taken : (site : Site) (inputs : List Content) (k : ℕ) (cursors : List (List Stamped)) (held : Held) (frozen : Frozen) → AreLawful site inputs → ArePut site inputs k cursors held → IsTime (cycle_time site.start site.period k) →
+pub is_taken : (site : Site) (inputs : List Content) (k : ℕ) (cursors : List (List Stamped)) (held : Held) (frozen : Frozen) → AreLawful site inputs → ArePut site inputs k cursors held →
     frozen.cycle ≡ k → frozen.time ≡ cycle_time held.start held.period k →
     ((puts : List Stamped) → StandsFor held puts → AreDue k puts → frozen.rows ≡ table held.start held.period held.timeout k puts) → IsTaken site inputs k frozen
-is_taken site inputs k cursors held frozen laws puts time number at rows =
+is_taken site inputs k cursors held frozen laws puts number at rows =
     let told : List Stamped = told_before (suc k) (stamps site inputs) in
     let due_all : AreDue k told = before_is_due k (stamps site inputs) in
     let taken : frozen.rows ≡ table site.start site.period site.timeout k told = rw (puts.of_site.start, puts.of_site.period, puts.of_site.timeout) at (rows told puts.put due_all) in
@@ -167,7 +167,6 @@ is_taken site inputs k cursors held frozen laws puts time number at rows =
       table = record {
         cycle = number;
         time = at_end;
-        late = rw at_end time;
         proper = subst IsProper (sym of_told) (laws.proper k told (told_then site inputs (suc k) laws puts.seen));
       };
     }
@@ -200,7 +199,7 @@ freezes {site} {inputs} {k} {cursors} {held} n reached number = subst (CanFreeze
 pub is_table : {site : Site} {inputs : List Content} {k : ℕ} {cursors : List (List Stamped)} {held : Held} (n : ℕ) (frozen : Frozen) → AreLawful site inputs → AreReached site inputs k cursors held → n ≡ k → frozen.cycle ≡ n →
     frozen.time ≡ cycle_time held.start held.period n → ((puts : List Stamped) → StandsFor held puts → AreDue n puts → frozen.rows ≡ table held.start held.period held.timeout n puts) → IsTaken site inputs k frozen
 is_table {site} {inputs} {k} {cursors} {held} n frozen laws reached number is at rows =
-    is_taken site inputs k cursors held frozen laws reached.put reached.more.time (is ∙ number) (at ∙ ap (λ (m : ℕ). cycle_time held.start held.period m) number)
+    is_taken site inputs k cursors held frozen laws reached.put (is ∙ number) (at ∙ ap (λ (m : ℕ). cycle_time held.start held.period m) number)
     (subst (λ (m : ℕ). (puts : List Stamped) → StandsFor held puts → AreDue m puts → frozen.rows ≡ table held.start held.period held.timeout m puts) number rows)
 
 pub frozen_at : (k n : ℕ) (old new : Held) → n ≡ k → new ≡ record old { frozen = Some (cycle_time old.start old.period n); kept = new.kept } → new ≡ record old { frozen = Some (cycle_time old.start old.period k); kept = new.kept }
